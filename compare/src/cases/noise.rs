@@ -1,0 +1,54 @@
+//! Pools without a plan.
+
+use super::scene::{draw_access, draw_granules, Placement};
+use super::Maker;
+use crate::promises::Expect;
+
+const FAMILY: &str = "noise";
+const SCENES: u32 = 12_000;
+
+pub fn run(maker: &mut Maker) {
+    for _ in 0..SCENES {
+        let random = &mut maker.random;
+        let scene = &mut maker.scene;
+        let code = random.below(6) as u8;
+        let placement = random.pick(&[
+            Placement::Zero,
+            Placement::Inside,
+            Placement::EndsAtLimit,
+            Placement::Straddles,
+            Placement::StartsAtLimit,
+            Placement::Top,
+        ]);
+        // Nothing lies beyond 48 bits.
+        let placement = match placement {
+            Placement::Straddles | Placement::StartsAtLimit if code == 5 => Placement::Top,
+            other => other,
+        };
+        let granules = draw_granules(random, 2);
+        scene.draw(random, code, placement, granules);
+        match random.below(8) {
+            0 | 1 => scene.fill_random(random),
+            2 if random.once_in(4) => scene.memory.fill(0),
+            2 => scene.memory.fill(0xFF),
+            _ => {}
+        }
+        for _ in 0..4 {
+            let address = draw_address(maker);
+            let access = draw_access(&mut maker.random, address);
+            maker.ask(FAMILY, &access, Expect::Walked);
+        }
+    }
+}
+
+/// Mostly an address within one of the two ranges.
+fn draw_address(maker: &mut Maker) -> u64 {
+    let random = &mut maker.random;
+    let any = random.bits();
+    let ranges = &maker.scene.regime.ranges;
+    match random.below(8) {
+        0 => any,
+        1..=3 => any & ((1 << (64 - ranges[0].t)) - 1),
+        _ => any | u64::MAX << (64 - ranges[1].t),
+    }
+}

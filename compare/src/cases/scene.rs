@@ -1,0 +1,364 @@
+//! A memory with a pool in it, a regime that speaks of the pool, and paths
+//! of descriptors laid through it.
+
+use crate::random::Random;
+use crate::reference::{
+    first_level, index_bits, lowest_index_bit, output_limit, Access, Kind, Pool, Range, Regime,
+    ADDRESS_FIELD, AF, AP1, AP2, GRANULE, MEMORY_LIMIT, PHYSICAL_LIMIT,
+};
+
+/// Where the pool lies against the first address beyond the output size.
+#[derive(Clone, Copy, Debug, PartialEq, Eq)]
+pub enum Placement {
+    /// At physical address 0.
+    Zero,
+    /// With at least a granule free on both sides.
+    Inside,
+    /// Its last byte is the last one within the output size.
+    EndsAtLimit,
+    /// At least one granule on each side of the limit.
+    Straddles,
+    /// Its first byte is the first one beyond the output size.
+    StartsAtLimit,
+    /// It ends at 2^48.
+    Top,
+}
+
+pub struct Scene {
+    pub memory: Vec<u8>,
+    pub regime: Regime,
+}
+
+/// A way down from a root: one table and one index for each level.
+#[derive(Clone, Copy, Debug)]
+pub struct Path {
+    pub range: usize,
+    pub first: usize,
+    pub leaf_level: usize,
+    pub tables: [u64; 4],
+    pub indices: [u64; 4],
+}
+
+impl Path {
+    /// Physical address of the descriptor read at a level.
+    pub fn entry(&self, level: usize) -> u64 {
+        self.tables[level] + 8 * self.indices[level]
+    }
+}
+
+/// Bytes 0x00, 0x04, 0x08, 0x0C.
+pub fn draw_device(random: &mut Random) -> u8 {
+    4 * random.below(4) as u8
+}
+
+/// A byte with both halves nonzero.
+pub fn draw_normal(random: &mut Random) -> u8 {
+    (random.between(1, 15) << 4 | random.between(1, 15)) as u8
+}
+
+fn draw_size(random: &mut Random, kind: Kind) -> u64 {
+    match kind {
+        Kind::Fetch => 4,
+        Kind::ProbeRead | Kind::ProbeWrite => 1,
+        _ => 1 << random.below(5),
+    }
+}
+
+/// An access of any kind somewhere in the page of `address`, never refused.
+pub fn draw_access(random: &mut Random, address: u64) -> Access {
+    let kind = random.pick(&Kind::ALL);
+    let size = draw_size(random, kind);
+    let room = GRANULE - size;
+    let offset = match random.below(5) {
+        0 => room,
+        1 => 0,
+        2 => random.below(room + 1),
+        _ => random.below(room + 1) & !(size - 1),
+    };
+    let offset = if kind == Kind::Fetch {
+        offset & !3
+    } else {
+        offset
+    };
+    Access {
+        address: (address & !(GRANULE - 1)) + offset,
+        size,
+        el0: random.coin(),
+        kind,
+    }
+}
+
+/// Any bits beside a leaf's address and type; half of the time with the
+/// fields set so that most accesses pass.
+pub fn draw_leaf(random: &mut Random, level: usize, output: u64) -> u64 {
+    let field = ADDRESS_FIELD & !((1 << lowest_index_bit(level as u8)) - 1);
+    let mut leaf = (random.bits() & !field & !3) | (output & field);
+    if random.coin() {
+        leaf |= 1 << AF | 1 << AP1;
+        leaf &= !(1 << AP2);
+    }
+    leaf | if level == 3 { 3 } else { 1 }
+}
+
+/// Any bits beside a table's address and type, 63..59 among them.
+pub fn draw_table(random: &mut Random, address: u64) -> u64 {
+    (random.bits() & !ADDRESS_FIELD) | (address & ADDRESS_FIELD) | 3
+}
+
+impl Scene {
+    /// An empty memory with room for the longest one, taken once.
+    pub fn new() -> Self {
+        let range = Range {
+            root: 0,
+            t: 16,
+            disabled: false,
+        };
+        Scene {
+            memory: Vec::with_capacity(MEMORY_LIMIT + 1),
+            regime: Regime {
+                pool: Pool {
+                    start: 0,
+                    length: GRANULE as usize,
+                    address: 0,
+                },
+                ranges: [range; 2],
+                output_code: 0,
+                ha: false,
+                hd: false,
+                wxn: false,
+                attributes: [0xFF; 8],
+            },
+        }
+    }
+
+    pub fn limit(&self) -> u64 {
+        output_limit(self.regime.output_code)
+    }
+
+    pub fn pool_end(&self) -> u64 {
+        self.regime.pool.address + self.regime.pool.length as u64
+    }
+
+    pub fn granules(&self) -> u64 {
+        self.regime.pool.length as u64 / GRANULE
+    }
+
+    /// Physical address of one of the pool's granules.
+    pub fn granule(&self, number: u64) -> u64 {
+        self.regime.pool.address + GRANULE * number
+    }
+
+    /// Granules of the pool within the output size; all, if none is.
+    fn usable(&self) -> u64 {
+        let below = self.limit().saturating_sub(self.regime.pool.address) / GRANULE;
+        match below.min(self.granules()) {
+            0 => self.granules(),
+            some => some,
+        }
+    }
+
+    pub fn draw_granule(&self, random: &mut Random) -> u64 {
+        self.granule(random.below(self.usable()))
+    }
+
+    /// A new pool of `granules`, a legal regime with nothing fixed but the
+    /// output code, and memory full of likely descriptors, also around the
+    /// pool.
+    pub fn draw(&mut self, random: &mut Random, code: u8, placement: Placement, granules: u64) {
+        let before = random.pick(&[0, 1, 1, 2]) * GRANULE as usize;
+        let behind = random.pick(&[0, 1, 8, 4095, 4096, 4096, 4096, 4100, 8192]);
+        self.draw_within(random, code, placement, granules, before, behind);
+    }
+
+    /// The same, with the memory before and behind the pool given in bytes.
+    pub fn draw_within(
+        &mut self,
+        random: &mut Random,
+        code: u8,
+        placement: Placement,
+        granules: u64,
+        before: usize,
+        behind: usize,
+    ) {
+        let limit = output_limit(code);
+        let length = granules * GRANULE;
+        let address = match placement {
+            Placement::Zero => 0,
+            Placement::Inside => random.between(1, limit / GRANULE - granules - 1) * GRANULE,
+            Placement::EndsAtLimit => limit - length,
+            Placement::Straddles => limit - GRANULE * random.between(1, granules - 1),
+            Placement::StartsAtLimit => limit,
+            Placement::Top => PHYSICAL_LIMIT - length,
+        };
+        self.regime.pool = Pool {
+            start: before,
+            length: length as usize,
+            address,
+        };
+        self.regime.output_code = code;
+        self.regime.ha = random.coin();
+        self.regime.hd = random.coin();
+        self.regime.wxn = random.coin();
+        for byte in &mut self.regime.attributes {
+            *byte = if random.once_in(3) {
+                draw_device(random)
+            } else {
+                draw_normal(random)
+            };
+        }
+        for range in 0..2 {
+            self.regime.ranges[range] = Range {
+                root: self.draw_root(random),
+                t: random.between(16, 39) as u8,
+                disabled: random.once_in(8),
+            };
+        }
+        self.memory.clear();
+        self.memory.resize(before + length as usize + behind, 0);
+        self.fill_likely(random);
+    }
+
+    /// Any root that is not refused; mostly one in the pool.
+    fn draw_root(&self, random: &mut Random) -> u64 {
+        match random.below(8) {
+            0 => random.below(PHYSICAL_LIMIT / GRANULE) * GRANULE,
+            1 => random.below(self.limit() / GRANULE) * GRANULE,
+            _ => self.draw_granule(random),
+        }
+    }
+
+    /// Fills the whole memory with descriptors that look valid, mostly
+    /// tables and pages in the pool, so that a stray read goes on.
+    pub fn fill_likely(&mut self, random: &mut Random) {
+        let limit = self.limit();
+        let (address, granules) = (self.regime.pool.address, self.usable());
+        for bytes in self.memory.chunks_mut(8) {
+            let noise = random.bits();
+            let other = random.bits();
+            let rest = noise & !ADDRESS_FIELD & !3;
+            let descriptor = match noise >> 12 & 15 {
+                0 => noise & !1,
+                1 => noise,
+                2..=5 => rest | (other & (limit - 1) & ADDRESS_FIELD) | 1,
+                6 | 7 => rest | (other & (limit - 1) & ADDRESS_FIELD) | 3,
+                _ => rest | (address + GRANULE * (other % granules)) | 3,
+            };
+            bytes.copy_from_slice(&descriptor.to_le_bytes()[..bytes.len()]);
+        }
+    }
+
+    /// Fills the whole memory with bytes that follow no plan.
+    pub fn fill_random(&mut self, random: &mut Random) {
+        for bytes in self.memory.chunks_mut(8) {
+            bytes.copy_from_slice(&random.bits().to_le_bytes()[..bytes.len()]);
+        }
+    }
+
+    /// Offset in memory for a physical address, in the pool or around it.
+    fn offset(&self, address: u64) -> Option<usize> {
+        let pool = &self.regime.pool;
+        let offset = pool.start as i128 + i128::from(address) - i128::from(pool.address);
+        if offset >= 0 && offset + 8 <= self.memory.len() as i128 {
+            Some(offset as usize)
+        } else {
+            None
+        }
+    }
+
+    /// Writes a descriptor, also beside the pool; where there is no memory
+    /// for it, it is left out.
+    pub fn put(&mut self, address: u64, descriptor: u64) {
+        if let Some(offset) = self.offset(address) {
+            self.memory[offset..offset + 8].copy_from_slice(&descriptor.to_le_bytes());
+        }
+    }
+
+    /// Gives the descriptor at an address other type bits, 1..0.
+    pub fn retype(&mut self, address: u64, bits: u64) {
+        if let Some(offset) = self.offset(address) {
+            self.memory[offset] = (self.memory[offset] & !3) | bits as u8;
+        }
+    }
+
+    /// A path through the pool in which no descriptor stands for two levels
+    /// if that can be had.
+    pub fn draw_path(&self, random: &mut Random, range: usize, leaf_level: usize) -> Path {
+        let t = self.regime.ranges[range].t;
+        let first = usize::from(first_level(t));
+        let mut path = Path {
+            range,
+            first,
+            leaf_level,
+            tables: [0; 4],
+            indices: [0; 4],
+        };
+        for level in first..=leaf_level {
+            for _ in 0..8 {
+                path.tables[level] = self.draw_granule(random);
+                path.indices[level] = self.draw_index(random, range, level);
+                if (first..level).all(|above| path.entry(above) != path.entry(level)) {
+                    break;
+                }
+            }
+        }
+        path
+    }
+
+    /// An index that can be reached at a level; the ends more often.
+    pub fn draw_index(&self, random: &mut Random, range: usize, level: usize) -> u64 {
+        let entries = self.entries(range, level);
+        match random.below(8) {
+            0 => 0,
+            1 => entries - 1,
+            _ => random.below(entries),
+        }
+    }
+
+    /// Number of entries that can be reached at a level.
+    pub fn entries(&self, range: usize, level: usize) -> u64 {
+        1 << index_bits(self.regime.ranges[range].t, level as u8)
+    }
+
+    /// Sets the root and writes the path's descriptors, the leaf last.
+    pub fn lay(&mut self, random: &mut Random, path: &Path, leaf: u64) {
+        self.regime.ranges[path.range].root = path.tables[path.first];
+        for level in path.first..path.leaf_level {
+            let table = draw_table(random, path.tables[level + 1]);
+            self.put(path.entry(level), table);
+        }
+        self.put(path.entry(path.leaf_level), leaf);
+    }
+
+    /// The address that the path translates, its lower bits free.
+    pub fn address(&self, random: &mut Random, path: &Path) -> u64 {
+        let span = 64 - u32::from(self.regime.ranges[path.range].t);
+        let mut address = random.bits() & ((1 << lowest_index_bit(path.leaf_level as u8)) - 1);
+        for level in path.first..=path.leaf_level {
+            address |= path.indices[level] << lowest_index_bit(level as u8);
+        }
+        if path.range == 1 {
+            address |= u64::MAX << span;
+        }
+        address
+    }
+
+    /// An output address within the output size.
+    pub fn draw_output(&self, random: &mut Random) -> u64 {
+        random.below(self.limit())
+    }
+}
+
+impl Default for Scene {
+    fn default() -> Self {
+        Scene::new()
+    }
+}
+
+/// Pool lengths: short ones mostly, each from 1 to 16 at times.
+pub fn draw_granules(random: &mut Random, least: u64) -> u64 {
+    match random.below(16) {
+        0 => 16,
+        1 => random.between(least, 16),
+        _ => random.between(least, 4),
+    }
+}

@@ -1,0 +1,267 @@
+//! Trees of every shape: each first level, each leaf level, both ranges,
+//! each output size, each with one thing made odd on purpose.
+
+use super::scene::{draw_access, draw_granules, draw_leaf, draw_table, Path, Placement, Scene};
+use super::Maker;
+use crate::promises::Expect;
+use crate::random::Random;
+use crate::reference::{first_level, lowest_index_bit, GRANULE, PHYSICAL_LIMIT};
+
+const FAMILY: &str = "shapes";
+const ROUNDS: u32 = 7;
+
+/// The odd thing. A number is the level whose table or descriptor is meant.
+#[derive(Clone, Copy, Debug)]
+enum Twist {
+    Plain,
+    /// The leaf is the pool's last descriptor.
+    LastSlot,
+    /// The leaf is the pool's first descriptor.
+    FirstSlot,
+    /// The table starts where the pool ends.
+    PastEnd(usize),
+    /// The table is the granule before the pool.
+    BeforeStart(usize),
+    /// The table is far from the pool.
+    Far(usize),
+    /// Bit 0 is clear.
+    Invalid(usize),
+    /// Bits 1..0 are 01 at level 0 or 3.
+    Reserved(usize),
+    /// The table is the last granule within the output size.
+    TableBelow(usize),
+    /// The table is the first granule beyond it, yet in the pool.
+    TableAt(usize),
+    /// The table is farther beyond it, in the pool or not.
+    TableAbove(usize),
+    LeafBelow,
+    LeafAt,
+    LeafAbove,
+    /// All tables are one and the same.
+    OneTable,
+    /// One descriptor points to its own table and serves every level.
+    Recursive,
+    /// Two entries lead to one table.
+    Shared(usize),
+    /// One of the bits above the range is wrong.
+    TopBit,
+    Disabled,
+}
+
+fn twists(first: usize, leaf_level: usize) -> Vec<Twist> {
+    let mut all = vec![
+        Twist::Plain,
+        Twist::Plain,
+        Twist::LastSlot,
+        Twist::FirstSlot,
+        Twist::LeafBelow,
+        Twist::LeafAt,
+        Twist::LeafAbove,
+        Twist::OneTable,
+        Twist::TopBit,
+        Twist::Disabled,
+    ];
+    for level in first..=leaf_level {
+        all.extend([
+            Twist::PastEnd(level),
+            Twist::BeforeStart(level),
+            Twist::Far(level),
+            Twist::Invalid(level),
+            Twist::TableBelow(level),
+            Twist::TableAt(level),
+            Twist::TableAbove(level),
+        ]);
+        if level == 0 || level == 3 {
+            all.push(Twist::Reserved(level));
+        }
+        if level < leaf_level {
+            all.push(Twist::Shared(level));
+        }
+    }
+    if leaf_level == 3 {
+        all.push(Twist::Recursive);
+    }
+    all
+}
+
+/// One tree to make.
+struct Wish {
+    t: u8,
+    range: usize,
+    leaf_level: usize,
+    code: u8,
+    twist: Twist,
+}
+
+impl Wish {
+    /// With 48 bits of output nothing lies beyond the limit.
+    fn has_beyond(&self) -> bool {
+        self.code < 5
+    }
+}
+
+pub fn run(maker: &mut Maker) {
+    for _ in 0..ROUNDS {
+        let some = maker.random.between(16, 39) as u8;
+        let another = maker.random.between(16, 39) as u8;
+        for t in [16, 24, 25, 33, 34, 39, some, another] {
+            let first = usize::from(first_level(t));
+            for leaf_level in first.max(1)..=3 {
+                for code in 0..6 {
+                    for twist in twists(first, leaf_level) {
+                        for range in 0..2 {
+                            let wish = Wish {
+                                t,
+                                range,
+                                leaf_level,
+                                code,
+                                twist,
+                            };
+                            ask(maker, &wish);
+                        }
+                    }
+                }
+            }
+        }
+    }
+}
+
+/// Makes the tree and asks for the path, for the same leaf again with the
+/// marks now in place, and for an address beside the path.
+fn ask(maker: &mut Maker, wish: &Wish) {
+    let random = &mut maker.random;
+    let scene = &mut maker.scene;
+    draw_scene(random, scene, wish);
+    let output = draw_output(random, scene, wish);
+    let leaf = draw_leaf(random, wish.leaf_level, output);
+    let mut path = scene.draw_path(random, wish.range, wish.leaf_level);
+    bend(random, scene, wish, &mut path);
+    scene.lay(random, &path, leaf);
+    let address = scene.address(random, &path);
+    let (address, again) = spoil(random, scene, wish, &path, address);
+    let beside = address ^ 1 << random.between(12, 63 - u64::from(wish.t));
+    for address in [address, again, beside] {
+        let access = draw_access(&mut maker.random, address);
+        maker.ask(FAMILY, &access, Expect::Walked);
+    }
+}
+
+/// Pool and regime, the pool where the twist needs it.
+fn draw_scene(random: &mut Random, scene: &mut Scene, wish: &Wish) {
+    let (placement, least) = match wish.twist {
+        Twist::TableBelow(_) => (Placement::EndsAtLimit, 1),
+        Twist::TableAt(_) | Twist::TableAbove(_) if wish.has_beyond() => (Placement::Straddles, 2),
+        Twist::PastEnd(_) | Twist::BeforeStart(_) | Twist::Far(_) => (Placement::Inside, 1),
+        _ => {
+            let some = random.pick(&[
+                Placement::Zero,
+                Placement::Inside,
+                Placement::Inside,
+                Placement::EndsAtLimit,
+            ]);
+            (some, 1)
+        }
+    };
+    let granules = draw_granules(random, least);
+    match wish.twist {
+        // Memory on the side where the walk will stray, mostly.
+        Twist::PastEnd(_) | Twist::BeforeStart(_) if !random.once_in(8) => {
+            let before = (random.between(1, 2) * GRANULE) as usize;
+            let behind = random.pick(&[8, 4096, 4096, 4103, 8192]);
+            scene.draw_within(random, wish.code, placement, granules, before, behind);
+        }
+        _ => scene.draw(random, wish.code, placement, granules),
+    }
+    scene.regime.ranges[wish.range].t = wish.t;
+    scene.regime.ranges[wish.range].disabled = matches!(wish.twist, Twist::Disabled);
+}
+
+fn draw_output(random: &mut Random, scene: &Scene, wish: &Wish) -> u64 {
+    let limit = scene.limit();
+    match wish.twist {
+        Twist::LeafBelow => limit - 1,
+        Twist::LeafAt if wish.has_beyond() => limit,
+        Twist::LeafAbove if wish.has_beyond() => limit + random.below(PHYSICAL_LIMIT - limit),
+        _ => scene.draw_output(random),
+    }
+}
+
+/// Leads the path to where the twist wants it, before it is written.
+fn bend(random: &mut Random, scene: &Scene, wish: &Wish, path: &mut Path) {
+    let leaf_level = wish.leaf_level;
+    let limit = scene.limit();
+    match wish.twist {
+        Twist::LastSlot => {
+            path.tables[leaf_level] = scene.granule(scene.granules() - 1);
+            path.indices[leaf_level] = scene.entries(wish.range, leaf_level) - 1;
+        }
+        Twist::FirstSlot => {
+            path.tables[leaf_level] = scene.granule(0);
+            path.indices[leaf_level] = 0;
+        }
+        Twist::PastEnd(level) => {
+            path.tables[level] = scene.pool_end();
+            if !random.once_in(4) {
+                path.indices[level] = 0;
+            }
+        }
+        Twist::BeforeStart(level) => {
+            path.tables[level] = scene.granule(0) - GRANULE;
+            if !random.once_in(4) {
+                path.indices[level] = scene.entries(wish.range, level) - 1;
+            }
+        }
+        Twist::Far(level) => {
+            path.tables[level] = random.below(limit / GRANULE) * GRANULE;
+        }
+        Twist::TableBelow(level) => path.tables[level] = limit - GRANULE,
+        Twist::TableAt(level) if wish.has_beyond() => path.tables[level] = limit,
+        Twist::TableAbove(level) if wish.has_beyond() => {
+            path.tables[level] = match random.below(3) {
+                0 => scene.pool_end() - GRANULE,
+                1 => limit + GRANULE,
+                _ => limit + random.below((PHYSICAL_LIMIT - limit) / GRANULE) * GRANULE,
+            };
+        }
+        Twist::OneTable => path.tables = [path.tables[leaf_level]; 4],
+        Twist::Recursive => {
+            path.tables = [path.tables[leaf_level]; 4];
+            path.indices = [path.indices[path.first]; 4];
+        }
+        _ => {}
+    }
+}
+
+/// Changes what was written, or the address. Gives the address for the path
+/// and one that reaches the same leaf.
+fn spoil(
+    random: &mut Random,
+    scene: &mut Scene,
+    wish: &Wish,
+    path: &Path,
+    address: u64,
+) -> (u64, u64) {
+    match wish.twist {
+        Twist::Invalid(level) => scene.retype(path.entry(level), random.below(2) << 1),
+        Twist::Reserved(level) => scene.retype(path.entry(level), 1),
+        Twist::Recursive => {
+            let table = draw_table(random, path.tables[wish.leaf_level]);
+            scene.put(path.entry(wish.leaf_level), table);
+        }
+        Twist::Shared(level) => {
+            let mut other = *path;
+            other.indices[level] = scene.draw_index(random, wish.range, level);
+            let table = draw_table(random, path.tables[level + 1]);
+            scene.put(other.entry(level), table);
+            let in_leaf = (1 << lowest_index_bit(wish.leaf_level as u8)) - 1;
+            let second = scene.address(random, &other);
+            return (address, (second & !in_leaf) | (address & in_leaf));
+        }
+        Twist::TopBit => {
+            let wrong = 1 << random.between(64 - u64::from(wish.t), 63);
+            return (address ^ wrong, address);
+        }
+        _ => {}
+    }
+    (address, address)
+}

@@ -1,0 +1,140 @@
+//! Puts each case to both walkers and holds their answers and memories
+//! against each other. The first difference ends the run with status 1.
+
+use compare::boundary::{plain_answer, CAnswer, Library};
+use compare::cases::{Case, Runner};
+use compare::promises;
+use compare::reference::{self, offset_in_memory, read_descriptor, Walk, MEMORY_LIMIT};
+use compare::tally::Tally;
+
+/// Bytes kept on both sides of the lent memory; nobody may touch them.
+const MARGIN: usize = 64;
+const MARGIN_BYTE: u8 = 0xA5;
+
+pub struct Comparison {
+    library: Library,
+    seed: u64,
+    trace: bool,
+    pub number: u64,
+    pub tally: Tally,
+    expected: Vec<u8>,
+    arena: Vec<u8>,
+}
+
+impl Comparison {
+    pub fn new(library: Library, seed: u64, trace: bool) -> Self {
+        Comparison {
+            library,
+            seed,
+            trace,
+            number: 0,
+            tally: Tally::default(),
+            expected: Vec::with_capacity(MEMORY_LIMIT + 1),
+            arena: vec![MARGIN_BYTE; MEMORY_LIMIT + 1 + 3 * MARGIN],
+        }
+    }
+
+    /// Everything there is to know about a case, and the end of the run.
+    fn fail(
+        &self,
+        case: &Case,
+        before: &[u8],
+        after: &[u8],
+        walk: &Walk,
+        answer: &CAnswer,
+        why: &[String],
+    ) -> ! {
+        println!("DIFFERENCE in case {} of seed {}", self.number, self.seed);
+        for line in why {
+            println!("  {line}");
+        }
+        println!("family: {}, expected: {:?}", case.family, case.expect);
+        println!("memory: {} bytes", before.len());
+        println!("regime: {:#x?}", case.spelling.regime(case.regime));
+        println!("access: {:#x?}", case.spelling.access(case.access));
+        for &entry in &walk.visited {
+            match offset_in_memory(&case.regime.pool, entry) {
+                Some(offset) => {
+                    let descriptor = read_descriptor(before, offset);
+                    println!("descriptor at {entry:#x}: {descriptor:#018x}");
+                }
+                None => println!("descriptor at {entry:#x}: not in the pool"),
+            }
+        }
+        println!("reference: {:#x?}", plain_answer(&walk.answer));
+        println!("library: {answer:#x?}");
+        let pairs = self.expected.iter().zip(after);
+        match pairs.clone().position(|(want, got)| want != got) {
+            Some(at) => println!(
+                "first differing byte: offset {at:#x}, before {:#04x}, reference {:#04x}, library {:#04x}",
+                before[at], self.expected[at], after[at]
+            ),
+            None => println!("first differing byte: none"),
+        }
+        std::process::exit(1);
+    }
+}
+
+impl Runner for Comparison {
+    fn run(&mut self, memory: &mut Vec<u8>, case: &Case) {
+        self.number += 1;
+        if self.trace {
+            eprintln!(
+                "case {}: {} bytes, {:x?}, {:x?}",
+                self.number,
+                memory.len(),
+                case.spelling.regime(case.regime),
+                case.spelling.access(case.access)
+            );
+        }
+
+        self.expected.clear();
+        self.expected.extend_from_slice(memory);
+        let walk = reference::walk(&mut self.expected, case.regime, case.access);
+
+        // The lent memory starts at any byte, aligned or not.
+        let start = MARGIN + (self.number % 16) as usize;
+        let end = start + memory.len();
+        self.arena[start - MARGIN..start].fill(MARGIN_BYTE);
+        self.arena[start..end].copy_from_slice(memory);
+        self.arena[end..end + MARGIN].fill(MARGIN_BYTE);
+        let lent = &mut self.arena[start..end];
+        let answer = self
+            .library
+            .walk(lent, case.regime, case.access, case.spelling);
+
+        let after = &self.arena[start..end];
+        let mut why = Vec::new();
+        if answer != plain_answer(&walk.answer) {
+            why.push("the answers differ".to_string());
+        }
+        if after != &self.expected[..] {
+            why.push("the memories differ".to_string());
+        }
+        let margins = [
+            &self.arena[start - MARGIN..start],
+            &self.arena[end..end + MARGIN],
+        ];
+        if margins.concat().iter().any(|&byte| byte != MARGIN_BYTE) {
+            why.push("bytes beside the memory were written".to_string());
+        }
+        let leaf_offset = walk.leaf.map(|(_, offset)| offset);
+        if let Err(broken) = promises::check(
+            case.regime,
+            case.access,
+            &answer,
+            memory,
+            after,
+            leaf_offset,
+            case.expect,
+        ) {
+            why.push(format!("promise broken: {broken}"));
+        }
+        if !why.is_empty() {
+            self.fail(case, memory, after, &walk, &answer, &why);
+        }
+
+        self.tally.note(case, memory, &walk, &answer);
+        memory.copy_from_slice(&self.arena[start..end]);
+    }
+}

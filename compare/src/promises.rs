@@ -1,0 +1,190 @@
+//! What 01 says of every answer, checked on the library's own answer and on
+//! the memory before and after. Of the reference only the leaf's place is
+//! taken.
+
+use crate::boundary::{CAnswer, FAULT, REFUSED, SUCCESS};
+use crate::reference::{Access, Kind, Regime};
+
+const AF_BIT: u64 = 1 << 10;
+const AP2_BIT: u64 = 1 << 7;
+const OUTPUT_BITS: [u32; 6] = [32, 36, 40, 42, 44, 48];
+
+/// What the maker of a case already knows of its answer.
+#[derive(Clone, Copy, Debug, PartialEq, Eq)]
+pub enum Expect {
+    Anything,
+    /// Not refused.
+    Walked,
+    Refused(u8),
+}
+
+/// The one 8-byte aligned word in which two memories of one length differ.
+enum Change {
+    None,
+    Word(usize),
+    Wider,
+}
+
+fn word(memory: &[u8], offset: usize) -> u64 {
+    let mut bytes = [0; 8];
+    bytes.copy_from_slice(&memory[offset..offset + 8]);
+    u64::from_le_bytes(bytes)
+}
+
+fn change(before: &[u8], after: &[u8]) -> Change {
+    if before == after {
+        return Change::None;
+    }
+    let differ = |(a, b): (&u8, &u8)| a != b;
+    let first = before.iter().zip(after).position(differ).unwrap_or(0);
+    let offset = first - first % 8;
+    let end = offset + 8;
+    if end <= before.len() && before[end..] == after[end..] {
+        Change::Word(offset)
+    } else {
+        Change::Wider
+    }
+}
+
+/// The first broken promise in words, if there is one.
+pub fn check(
+    regime: &Regime,
+    access: &Access,
+    answer: &CAnswer,
+    before: &[u8],
+    after: &[u8],
+    leaf_offset: Option<usize>,
+    expect: Expect,
+) -> Result<(), String> {
+    let demand = |holds: bool, words: &str| {
+        if holds {
+            Ok(())
+        } else {
+            Err(words.to_string())
+        }
+    };
+
+    demand(answer.tag <= REFUSED, "the tag is none of the three")?;
+    match expect {
+        Expect::Anything => {}
+        Expect::Walked => demand(answer.tag != REFUSED, "refused, with all at its limit")?,
+        Expect::Refused(number) => demand(
+            answer.tag == REFUSED && answer.refusal == number,
+            "not refused with the number the case was made for",
+        )?,
+    }
+
+    // "A refusal carries its number alone."
+    if answer.tag == REFUSED {
+        let alone = CAnswer {
+            tag: REFUSED,
+            refusal: answer.refusal,
+            ..CAnswer::default()
+        };
+        demand(*answer == alone, "a refusal carries more than its number")?;
+        demand(
+            (1..=7).contains(&answer.refusal),
+            "a plain walk refuses with 1 to 7",
+        )?;
+    }
+
+    // Marks: what changed in memory, and what the answer says of it.
+    let changed = change(before, after);
+    let (mut accessed, mut dirtied) = (false, false);
+    match changed {
+        Change::None => {}
+        Change::Wider => return Err("more than one descriptor changed".to_string()),
+        Change::Word(offset) => {
+            let (old, new) = (word(before, offset), word(after, offset));
+            demand(
+                answer.tag == SUCCESS,
+                "memory changed by a fault or a refusal",
+            )?;
+            demand(
+                offset >= regime.pool.start && offset - regime.pool.start < regime.pool.length,
+                "memory changed outside the pool",
+            )?;
+            demand(
+                (old ^ new) & !(AF_BIT | AP2_BIT) == 0,
+                "a bit changed that is no mark",
+            )?;
+            accessed = old & AF_BIT != new & AF_BIT;
+            dirtied = old & AP2_BIT != new & AP2_BIT;
+            demand(
+                !accessed || new & AF_BIT != 0,
+                "the Access flag was cleared",
+            )?;
+            demand(!dirtied || new & AP2_BIT == 0, "AP[2] was set")?;
+            demand(!dirtied || new & AF_BIT != 0, "dirty without Access flag")?;
+            demand(
+                matches!(
+                    access.kind,
+                    Kind::Read | Kind::Write | Kind::Update | Kind::Fetch
+                ),
+                "a probe changed memory",
+            )?;
+            demand(
+                !dirtied || matches!(access.kind, Kind::Write | Kind::Update),
+                "dirtied by an access that writes nothing",
+            )?;
+            demand(regime.ha, "marked with HA off")?;
+            demand(!dirtied || regime.hd, "dirtied with HD off")?;
+        }
+    }
+    demand(
+        answer.accessed == u8::from(accessed),
+        "the Access flag mark is told wrongly",
+    )?;
+    demand(
+        answer.dirtied == u8::from(dirtied),
+        "the dirty mark is told wrongly",
+    )?;
+
+    demand(answer.reads <= 4, "more than 4 reads")?;
+    demand(answer.level <= 3, "a level above 3")?;
+    demand(answer.cacheable <= 1, "a truth value above 1")?;
+
+    if answer.tag == FAULT {
+        let base = answer.code.wrapping_sub(u16::from(answer.level));
+        demand(
+            answer.code == 33 || [0, 4, 8, 12, 20].contains(&base),
+            "a code the paper does not have",
+        )?;
+        demand(
+            answer.cacheable == 0 || answer.code == 33 || base == 12,
+            "rememberable under a fault that reached no usable leaf",
+        )?;
+    }
+
+    if answer.tag == SUCCESS {
+        let bits = OUTPUT_BITS[usize::from(regime.output_code)];
+        demand(answer.output >> bits == 0, "output beyond the output size")?;
+        demand(
+            answer.output % 4096 == access.address % 4096,
+            "output at another place in its page",
+        )?;
+        demand(
+            answer.reads >= 1 && answer.level >= 1,
+            "success without a leaf",
+        )?;
+        demand(
+            regime.attributes.contains(&answer.attribute),
+            "an attribute byte the regime does not have",
+        )?;
+        let Some(offset) = leaf_offset else {
+            return Err("success where the reference found no leaf".to_string());
+        };
+        let leaf = word(after, offset);
+        if matches!(access.kind, Kind::Write | Kind::Update) {
+            demand(
+                leaf & AF_BIT != 0 && leaf & AP2_BIT == 0,
+                "written, but the leaf is not accessed and dirty",
+            )?;
+        }
+        demand(
+            answer.cacheable == u8::from(leaf & AF_BIT != 0),
+            "rememberable must say that AF is 1 afterwards",
+        )?;
+    }
+    Ok(())
+}

@@ -1,0 +1,521 @@
+//! What the cases met. Everything that can occur must be met, and nothing
+//! else may be.
+
+use crate::boundary::{CAnswer, FAULT, REFUSED, SUCCESS};
+use crate::cases::Case;
+use crate::reference::{
+    bit, first_level, is_device, leaf_address, offset_in_memory, output_limit, read_descriptor,
+    Access, Answer, FaultKind, Kind, Leaf, Regime, Walk, ADDRESS_FIELD, GRANULE, MEMORY_LIMIT,
+};
+use std::collections::{BTreeMap, BTreeSet};
+use std::fmt;
+
+/// How a walk ended.
+#[derive(Clone, Copy, Debug, PartialEq, Eq, PartialOrd, Ord)]
+pub enum End {
+    Success,
+    Fault(FaultKind),
+}
+
+/// An address that is held against the output size.
+#[derive(Clone, Copy, Debug, PartialEq, Eq, PartialOrd, Ord)]
+pub enum Held {
+    Root,
+    Table,
+    Leaf,
+}
+
+/// Places that a slip would miss.
+#[derive(Clone, Copy, Debug, PartialEq, Eq, PartialOrd, Ord)]
+pub enum Place {
+    /// The leaf is the pool's first descriptor.
+    FirstOfPool,
+    /// The leaf is the pool's last descriptor.
+    LastOfPool,
+    /// Abort at the first descriptor behind the pool, where memory goes on
+    /// with one that looks valid.
+    BehindPool,
+    /// The same at the last descriptor before the pool.
+    BeforePool,
+    /// One descriptor read at two levels, and a leaf reached.
+    ReadTwice,
+    /// Success with a range 1 address of all ones.
+    AllOnes,
+    /// Success in a pool at address 0.
+    PoolAtZero,
+    /// Success in a pool that ends at 2^48.
+    PoolAtTop,
+    /// Walked in a memory of 1,048,576 bytes.
+    LongestMemory,
+    /// Walked in a memory of 4,096 bytes.
+    ShortestMemory,
+    /// Success where truth is spelled with a byte other than 1.
+    OddTruth,
+    /// Success where probe-write is spelled with a number above 5.
+    OddKind,
+}
+
+/// One thing to meet.
+#[derive(Clone, Copy, Debug, PartialEq, Eq, PartialOrd, Ord)]
+pub enum Feature {
+    Tag(u8),
+    Refusal(u8),
+    Code(u16),
+    /// A fault of step 1, which reads nothing.
+    AtOnce(FaultKind),
+    /// First level and level of a fault met on the way.
+    Fault(FaultKind, u8, u8),
+    /// First level and level of a success.
+    Success(u8, u8),
+    Reads(u8, u8),
+    Marks(Kind, bool, bool),
+    Rememberable(End, bool),
+    /// Kind and EL0 or EL1, for the ends that depend on them.
+    Asked(End, Kind, bool),
+    /// Success by range and size field.
+    SizeField(usize, u8),
+    OutputCode(End, u8),
+    /// Table read or output page just below the output size's end.
+    Below(Held, u8),
+    /// Address size fault just at it.
+    At(Held, u8),
+    /// Success by attribute index; true for Device.
+    Attribute(u8, bool),
+    Shareability(u8),
+    NonGlobal(bool),
+    /// Success by the pool's length in granules.
+    Granules(u8),
+    Place(Place),
+}
+
+use Feature as F;
+
+impl Feature {
+    fn heading(&self) -> &'static str {
+        match self {
+            F::Tag(_) => "answers",
+            F::Refusal(_) => "refusals",
+            F::Code(_) => "fault codes",
+            F::AtOnce(_) => "faults of step 1",
+            F::Fault(..) => "faults by first level > level",
+            F::Success(..) => "successes by first level > level",
+            F::Reads(..) => "reads",
+            F::Marks(..) => "marks",
+            F::Rememberable(..) => "may be remembered",
+            F::Asked(..) => "ends by access",
+            F::SizeField(..) => "successes by range and T",
+            F::OutputCode(..) => "ends by output code",
+            F::Below(..) => "last granule within the output size, by code",
+            F::At(..) => "first granule beyond the output size, by code",
+            F::Attribute(..) => "successes by attribute index",
+            F::Shareability(_) => "successes by shareability",
+            F::NonGlobal(_) => "successes by nG",
+            F::Granules(_) => "successes by granules in the pool",
+            F::Place(_) => "places",
+        }
+    }
+}
+
+impl fmt::Display for End {
+    fn fmt(&self, out: &mut fmt::Formatter) -> fmt::Result {
+        match self {
+            End::Success => write!(out, "Success"),
+            End::Fault(kind) => write!(out, "{kind:?}"),
+        }
+    }
+}
+
+fn level_name(el0: bool) -> &'static str {
+    if el0 {
+        "EL0"
+    } else {
+        "EL1"
+    }
+}
+
+fn tag_name(tag: u8) -> &'static str {
+    match tag {
+        SUCCESS => "success",
+        FAULT => "fault",
+        _ => "refused",
+    }
+}
+
+impl fmt::Display for Feature {
+    fn fmt(&self, out: &mut fmt::Formatter) -> fmt::Result {
+        match *self {
+            F::Tag(tag) => write!(out, "{}", tag_name(tag)),
+            F::Refusal(number) => write!(out, "no. {number}"),
+            F::Code(code) => write!(out, "code {code}"),
+            F::AtOnce(kind) => write!(out, "{kind:?}"),
+            F::Fault(kind, first, level) => write!(out, "{kind:?} {first}>{level}"),
+            F::Success(first, level) => write!(out, "{first}>{level}"),
+            F::Reads(tag, count) => write!(out, "{} {count}", tag_name(tag)),
+            F::Marks(kind, accessed, dirtied) => {
+                let marks = match (accessed, dirtied) {
+                    (false, false) => "none",
+                    (true, false) => "AF",
+                    (false, true) => "dirty",
+                    (true, true) => "AF+dirty",
+                };
+                write!(out, "{kind:?} {marks}")
+            }
+            F::Rememberable(end, yes) => write!(out, "{end} {}", if yes { "yes" } else { "no" }),
+            F::Asked(end, kind, el0) => write!(out, "{end} {} {kind:?}", level_name(el0)),
+            F::SizeField(range, t) => write!(out, "{range}:{t}"),
+            F::OutputCode(end, code) => write!(out, "{end} {code}"),
+            F::Below(held, code) | F::At(held, code) => write!(out, "{held:?} {code}"),
+            F::Attribute(index, device) => {
+                write!(out, "{index} {}", if device { "Device" } else { "Normal" })
+            }
+            F::Shareability(value) => write!(out, "{value}"),
+            F::NonGlobal(value) => write!(out, "{}", u8::from(value)),
+            F::Granules(count) => write!(out, "{count}"),
+            F::Place(place) => write!(out, "{place:?}"),
+        }
+    }
+}
+
+/// Everything that 01 lets occur.
+pub fn possible() -> BTreeSet<Feature> {
+    let mut all = BTreeSet::new();
+    all.extend([SUCCESS, FAULT, REFUSED].map(F::Tag));
+    all.extend((1..=7).map(F::Refusal));
+
+    // Step 1 gives two faults; leaves are at levels 1 to 3 only.
+    all.insert(F::AtOnce(FaultKind::Translation));
+    all.insert(F::AtOnce(FaultKind::AddressSize));
+    for first in 0..=2 {
+        for level in first..=3 {
+            let reads = level - first + 1;
+            for (kind, base) in [
+                (FaultKind::AddressSize, 0),
+                (FaultKind::Translation, 4),
+                (FaultKind::WalkAbort, 20),
+            ] {
+                all.insert(F::Fault(kind, first, level));
+                all.insert(F::Code(base + u16::from(level)));
+            }
+            if level > 0 {
+                for (kind, base) in [(FaultKind::AccessFlag, 8), (FaultKind::Permission, 12)] {
+                    all.insert(F::Fault(kind, first, level));
+                    all.insert(F::Code(base + u16::from(level)));
+                }
+                all.insert(F::Fault(FaultKind::Alignment, first, level));
+                all.insert(F::Success(first, level));
+                all.insert(F::Reads(SUCCESS, reads));
+            }
+            all.insert(F::Reads(FAULT, reads));
+        }
+    }
+    all.insert(F::Code(33));
+    all.insert(F::Reads(FAULT, 0));
+
+    for kind in Kind::ALL {
+        all.insert(F::Marks(kind, false, false));
+        if !kind.is_probe() {
+            all.insert(F::Marks(kind, true, false));
+        }
+        if kind.changes_data() {
+            all.insert(F::Marks(kind, false, true));
+            all.insert(F::Marks(kind, true, true));
+        }
+        for el0 in [false, true] {
+            all.insert(F::Asked(End::Success, kind, el0));
+            // EL1 reads always.
+            if el0 || !matches!(kind, Kind::Read | Kind::ProbeRead) {
+                all.insert(F::Asked(End::Fault(FaultKind::Permission), kind, el0));
+            }
+            if kind.moves_data() {
+                all.insert(F::Asked(End::Fault(FaultKind::Alignment), kind, el0));
+            }
+            all.insert(F::Asked(End::Fault(FaultKind::AccessFlag), kind, el0));
+        }
+    }
+
+    // A probe can succeed and leave AF 0.
+    for end in [
+        End::Success,
+        End::Fault(FaultKind::Permission),
+        End::Fault(FaultKind::Alignment),
+    ] {
+        all.insert(F::Rememberable(end, true));
+        all.insert(F::Rememberable(end, false));
+    }
+    for kind in [
+        FaultKind::AddressSize,
+        FaultKind::Translation,
+        FaultKind::AccessFlag,
+        FaultKind::WalkAbort,
+    ] {
+        all.insert(F::Rememberable(End::Fault(kind), false));
+    }
+
+    for t in 16..=39 {
+        all.insert(F::SizeField(0, t));
+        all.insert(F::SizeField(1, t));
+    }
+    for code in 0..=5 {
+        all.insert(F::OutputCode(End::Success, code));
+        for held in [Held::Root, Held::Table, Held::Leaf] {
+            all.insert(F::Below(held, code));
+            // No address passes 48 bits.
+            if code < 5 {
+                all.insert(F::At(held, code));
+            }
+        }
+        if code < 5 {
+            let end = End::Fault(FaultKind::AddressSize);
+            all.insert(F::OutputCode(end, code));
+        }
+    }
+    for index in 0..8 {
+        all.insert(F::Attribute(index, false));
+        all.insert(F::Attribute(index, true));
+    }
+    all.extend((0..4).map(F::Shareability));
+    all.extend([false, true].map(F::NonGlobal));
+    all.extend((1..=16).map(F::Granules));
+    all.extend(
+        [
+            Place::FirstOfPool,
+            Place::LastOfPool,
+            Place::BehindPool,
+            Place::BeforePool,
+            Place::ReadTwice,
+            Place::AllOnes,
+            Place::PoolAtZero,
+            Place::PoolAtTop,
+            Place::LongestMemory,
+            Place::ShortestMemory,
+            Place::OddTruth,
+            Place::OddKind,
+        ]
+        .map(F::Place),
+    );
+    all
+}
+
+#[derive(Default)]
+pub struct Tally {
+    met: BTreeMap<Feature, u64>,
+    families: BTreeMap<&'static str, u64>,
+}
+
+impl Tally {
+    fn meet(&mut self, feature: Feature) {
+        *self.met.entry(feature).or_default() += 1;
+    }
+
+    /// Counts one case: the library's answer, and the way the reference
+    /// took through the memory as it was before.
+    pub fn note(&mut self, case: &Case, before: &[u8], walk: &Walk, answer: &CAnswer) {
+        let (regime, access) = (case.regime, case.access);
+        *self.families.entry(case.family).or_default() += 1;
+        self.meet(F::Tag(answer.tag));
+        if answer.tag == REFUSED {
+            return self.meet(F::Refusal(answer.refusal));
+        }
+        if answer.tag == FAULT {
+            self.meet(F::Code(answer.code));
+        }
+        self.meet(F::Reads(answer.tag, answer.reads));
+        match before.len() {
+            MEMORY_LIMIT => self.meet(F::Place(Place::LongestMemory)),
+            4096 => self.meet(F::Place(Place::ShortestMemory)),
+            _ => {}
+        }
+
+        let end = match walk.answer {
+            Answer::Fault(fault) => End::Fault(fault.stop.kind),
+            _ => End::Success,
+        };
+        self.meet(F::Rememberable(end, answer.cacheable != 0));
+        if walk.leaf.is_some() {
+            self.meet(F::Asked(end, access.kind, access.el0));
+        }
+        let range = usize::from(bit(access.address, 55));
+        let t = regime.ranges[range].t;
+        match end {
+            End::Success => {
+                self.meet(F::Success(first_level(t), answer.level));
+                self.meet(F::SizeField(range, t));
+                self.note_success(regime, access, walk, answer);
+                if case.spelling.truth != 1 {
+                    self.meet(F::Place(Place::OddTruth));
+                }
+                if access.kind == Kind::ProbeWrite && case.spelling.probe_write > 5 {
+                    self.meet(F::Place(Place::OddKind));
+                }
+            }
+            End::Fault(kind) => {
+                if answer.reads == 0 {
+                    self.meet(F::AtOnce(kind));
+                } else {
+                    self.meet(F::Fault(kind, first_level(t), answer.level));
+                }
+                self.note_fault(regime, range, before, walk, kind);
+            }
+        }
+    }
+
+    fn note_success(&mut self, regime: &Regime, access: &Access, walk: &Walk, answer: &CAnswer) {
+        let code = regime.output_code;
+        let last_granule = output_limit(code) - GRANULE;
+        self.meet(F::Marks(
+            access.kind,
+            answer.accessed != 0,
+            answer.dirtied != 0,
+        ));
+        self.meet(F::OutputCode(End::Success, code));
+        self.meet(F::Shareability(answer.shareability));
+        self.meet(F::NonGlobal(answer.nonglobal != 0));
+        self.meet(F::Granules((regime.pool.length as u64 / GRANULE) as u8));
+        if let Some((leaf, _)) = walk.leaf {
+            let index = (leaf.descriptor >> 2 & 7) as u8;
+            self.meet(F::Attribute(index, is_device(answer.attribute)));
+            // The last leaf of its size below the limit.
+            let span = 1 << (39 - 9 * u32::from(leaf.level));
+            if leaf_address(&leaf) + span == output_limit(code) {
+                self.meet(F::Below(Held::Leaf, code));
+            }
+        }
+        for (step, entry) in walk.visited.iter().enumerate() {
+            if entry & !(GRANULE - 1) == last_granule {
+                let held = if step == 0 { Held::Root } else { Held::Table };
+                self.meet(F::Below(held, code));
+            }
+        }
+        let pool = &regime.pool;
+        let pool_end = pool.address + pool.length as u64;
+        if let Some(&entry) = walk.visited.last() {
+            if entry == pool.address {
+                self.meet(F::Place(Place::FirstOfPool));
+            }
+            if entry + 8 == pool_end {
+                self.meet(F::Place(Place::LastOfPool));
+            }
+        }
+        let different: BTreeSet<u64> = walk.visited.iter().copied().collect();
+        if different.len() < walk.visited.len() {
+            self.meet(F::Place(Place::ReadTwice));
+        }
+        if access.address == u64::MAX {
+            self.meet(F::Place(Place::AllOnes));
+        }
+        if pool.address == 0 {
+            self.meet(F::Place(Place::PoolAtZero));
+        }
+        if pool_end == 1 << 48 {
+            self.meet(F::Place(Place::PoolAtTop));
+        }
+    }
+
+    fn note_fault(
+        &mut self,
+        regime: &Regime,
+        range: usize,
+        before: &[u8],
+        walk: &Walk,
+        kind: FaultKind,
+    ) {
+        let pool = &regime.pool;
+        match kind {
+            FaultKind::AddressSize => {
+                let code = regime.output_code;
+                self.meet(F::OutputCode(End::Fault(kind), code));
+                let (held, address) = address_beyond(regime, range, before, walk);
+                if address == output_limit(code) {
+                    self.meet(F::At(held, code));
+                }
+            }
+            FaultKind::WalkAbort => {
+                let Some(&entry) = walk.visited.last() else {
+                    return;
+                };
+                // Does the memory around the pool look valid there?
+                let looks_valid = |offset: usize| {
+                    offset + 8 <= before.len() && read_descriptor(before, offset) & 1 == 1
+                };
+                let behind = pool.start + pool.length;
+                if entry == pool.address + pool.length as u64 && looks_valid(behind) {
+                    self.meet(F::Place(Place::BehindPool));
+                }
+                if entry.checked_add(8) == Some(pool.address)
+                    && pool.start >= 8
+                    && looks_valid(pool.start - 8)
+                {
+                    self.meet(F::Place(Place::BeforePool));
+                }
+            }
+            _ => {}
+        }
+    }
+
+    /// All counts, a line for each heading; then what is missing and what
+    /// should not be there. True if there is neither.
+    pub fn report(&self) -> bool {
+        let families: Vec<String> = self
+            .families
+            .iter()
+            .map(|(name, count)| format!("{name} {count}"))
+            .collect();
+        println!("families: {}", families.join(", "));
+        let possible = possible();
+        let mut heading = "";
+        for feature in &possible {
+            let count = self.met.get(feature).copied().unwrap_or(0);
+            if feature.heading() == heading {
+                print!(", ");
+            } else {
+                if !heading.is_empty() {
+                    println!();
+                }
+                heading = feature.heading();
+                print!("{heading}: ");
+            }
+            print!("{feature} = {count}");
+        }
+        println!();
+        let missing = self.missing();
+        for feature in &missing {
+            println!("not met: {}: {feature}", feature.heading());
+        }
+        let strangers = self.strangers();
+        for feature in &strangers {
+            println!("cannot occur: {}: {feature}", feature.heading());
+        }
+        missing.is_empty() && strangers.is_empty()
+    }
+
+    pub fn missing(&self) -> Vec<Feature> {
+        let met = |feature: &Feature| self.met.contains_key(feature);
+        possible().into_iter().filter(|f| !met(f)).collect()
+    }
+
+    pub fn strangers(&self) -> Vec<Feature> {
+        let possible = possible();
+        let strange = |feature: &&Feature| !possible.contains(feature);
+        self.met.keys().filter(strange).copied().collect()
+    }
+}
+
+/// The address that lay beyond the output size, and what it was.
+fn address_beyond(regime: &Regime, range: usize, before: &[u8], walk: &Walk) -> (Held, u64) {
+    let offset = walk
+        .visited
+        .last()
+        .and_then(|&entry| offset_in_memory(&regime.pool, entry));
+    let Some(offset) = offset else {
+        return (Held::Root, regime.ranges[range].root);
+    };
+    let descriptor = read_descriptor(before, offset);
+    let first = first_level(regime.ranges[range].t);
+    let level = first + walk.visited.len() as u8 - 1;
+    if level < 3 && descriptor & 3 == 3 {
+        (Held::Table, descriptor & ADDRESS_FIELD)
+    } else {
+        let leaf = Leaf { descriptor, level };
+        (Held::Leaf, leaf_address(&leaf))
+    }
+}

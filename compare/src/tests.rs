@@ -1,0 +1,266 @@
+//! P1 to P12 of 01 held against the reference, and a check that the cases
+//! meet all they should.
+
+use crate::boundary::plain_answer;
+use crate::cases::{run_all, Case, Runner};
+use crate::promises;
+use crate::reference::{
+    read_descriptor, walk, write_descriptor, Access, Answer, Kind, Pool, Range, Regime, Success,
+    Walk,
+};
+use crate::tally::Tally;
+
+const POOL: u64 = 0x4000_0000;
+const LEAF_OFFSET: usize = 0x3018;
+const LEAF: u64 = 0x0008_0000_8000_53C3;
+
+/// The memory and regime that each case starts from.
+fn start() -> (Vec<u8>, Regime) {
+    let mut memory = vec![0; 65_536];
+    write_descriptor(&mut memory, 0, 0x4000_1003);
+    write_descriptor(&mut memory, 0x1000, 0x4000_2003);
+    write_descriptor(&mut memory, 0x2010, 0x4000_3003);
+    write_descriptor(&mut memory, LEAF_OFFSET, LEAF);
+    let range = Range {
+        root: POOL,
+        t: 16,
+        disabled: false,
+    };
+    let regime = Regime {
+        pool: Pool {
+            start: 0,
+            length: 65_536,
+            address: POOL,
+        },
+        ranges: [range; 2],
+        output_code: 5,
+        ha: true,
+        hd: true,
+        wxn: false,
+        attributes: [0xFF; 8],
+    };
+    (memory, regime)
+}
+
+fn access(kind: Kind) -> Access {
+    Access {
+        address: 0x40_3ABC,
+        size: 4,
+        el0: true,
+        kind,
+    }
+}
+
+/// Walks, and demands that no byte changed beside the leaf.
+fn go(memory: &mut [u8], regime: &Regime, access: &Access) -> Walk {
+    let before = memory.to_vec();
+    let result = walk(memory, regime, access);
+    let leaf = LEAF_OFFSET..LEAF_OFFSET + 8;
+    assert_eq!(memory[..leaf.start], before[..leaf.start]);
+    assert_eq!(memory[leaf.end..], before[leaf.end..]);
+    result
+}
+
+fn success(walk: &Walk) -> Success {
+    match walk.answer {
+        Answer::Success(success) => success,
+        other => panic!("{other:?} is no success"),
+    }
+}
+
+/// Code, level, rememberable, reads.
+fn fault(walk: &Walk) -> (u16, u8, bool, u8) {
+    match walk.answer {
+        Answer::Fault(fault) => (
+            fault.stop.code(),
+            fault.stop.level,
+            fault.rememberable,
+            fault.reads,
+        ),
+        other => panic!("{other:?} is no fault"),
+    }
+}
+
+#[test]
+fn p1_read() {
+    let (mut memory, regime) = start();
+    let walk = go(&mut memory, &regime, &access(Kind::Read));
+    let wanted = Success {
+        output: 0x8000_5ABC,
+        attribute: 0xFF,
+        shareability: 3,
+        nonglobal: false,
+        level: 3,
+        accessed: true,
+        dirtied: false,
+        rememberable: true,
+        reads: 4,
+    };
+    assert_eq!(success(&walk), wanted);
+    assert_eq!(read_descriptor(&memory, LEAF_OFFSET), 0x0008_0000_8000_57C3);
+    let path = [POOL, POOL + 0x1000, POOL + 0x2010, POOL + 0x3018];
+    assert_eq!(walk.visited, path);
+}
+
+#[test]
+fn p2_write() {
+    let (mut memory, regime) = start();
+    let walk = go(&mut memory, &regime, &access(Kind::Write));
+    let success = success(&walk);
+    assert_eq!(success.output, 0x8000_5ABC);
+    assert!(success.accessed && success.dirtied && success.rememberable);
+    assert_eq!(
+        memory[LEAF_OFFSET..LEAF_OFFSET + 8],
+        [0x43, 0x57, 0x00, 0x80, 0x00, 0x00, 0x08, 0x00]
+    );
+}
+
+#[test]
+fn p3_probe_write() {
+    let (mut memory, regime) = start();
+    let probe = Access {
+        size: 1,
+        ..access(Kind::ProbeWrite)
+    };
+    let walk = go(&mut memory, &regime, &probe);
+    let success = success(&walk);
+    assert_eq!(success.output, 0x8000_5ABC);
+    assert!(!success.accessed && !success.dirtied && !success.rememberable);
+    assert_eq!(read_descriptor(&memory, LEAF_OFFSET), LEAF);
+    // With size 4 row 6 comes first.
+    let walk = go(&mut memory, &regime, &access(Kind::ProbeWrite));
+    assert_eq!(walk.answer, Answer::Refused(6));
+}
+
+#[test]
+fn p4_hd_off() {
+    let (mut memory, mut regime) = start();
+    regime.hd = false;
+    let walk = go(&mut memory, &regime, &access(Kind::Write));
+    assert_eq!(fault(&walk), (15, 3, false, 4));
+    assert_eq!(read_descriptor(&memory, LEAF_OFFSET), LEAF);
+}
+
+#[test]
+fn p5_ha_off() {
+    let (mut memory, mut regime) = start();
+    regime.ha = false;
+    let walk = go(&mut memory, &regime, &access(Kind::Write));
+    assert_eq!(fault(&walk), (11, 3, false, 4));
+    assert_eq!(read_descriptor(&memory, LEAF_OFFSET), LEAF);
+}
+
+#[test]
+fn p6_last_granule() {
+    let (mut memory, regime) = start();
+    write_descriptor(&mut memory, 0x2010, 0x4000_F003);
+    let walk = go(&mut memory, &regime, &access(Kind::Read));
+    assert_eq!(fault(&walk), (7, 3, false, 4));
+    assert_eq!(walk.visited[3], 0x4000_F018);
+}
+
+#[test]
+fn p7_past_the_pool() {
+    let (mut memory, regime) = start();
+    write_descriptor(&mut memory, 0x2010, 0x4001_0003);
+    let walk = go(&mut memory, &regime, &access(Kind::Read));
+    assert_eq!(fault(&walk), (23, 3, false, 4));
+}
+
+#[test]
+fn p8_output_size() {
+    let (mut memory, mut regime) = start();
+    regime.output_code = 0;
+    write_descriptor(&mut memory, LEAF_OFFSET, 0x0008_0001_0000_03C3);
+    let walk = go(&mut memory, &regime, &access(Kind::Read));
+    assert_eq!(fault(&walk), (3, 3, false, 4));
+}
+
+#[test]
+fn p9_reserved() {
+    let (mut memory, regime) = start();
+    write_descriptor(&mut memory, LEAF_OFFSET, LEAF & !2);
+    let walk = go(&mut memory, &regime, &access(Kind::Read));
+    assert_eq!(fault(&walk), (7, 3, false, 4));
+}
+
+#[test]
+fn p10_alignment() {
+    let (mut memory, mut regime) = start();
+    regime.attributes[0] = 0x00;
+    let misaligned = Access {
+        address: 0x40_3ABD,
+        size: 2,
+        ..access(Kind::Read)
+    };
+    let walk = go(&mut memory, &regime, &misaligned);
+    assert_eq!(fault(&walk), (33, 3, false, 4));
+    assert_eq!(read_descriptor(&memory, LEAF_OFFSET), LEAF);
+}
+
+#[test]
+fn p11_page_end() {
+    let (mut memory, regime) = start();
+    let fits = Access {
+        address: 0x40_3FFC,
+        ..access(Kind::Read)
+    };
+    let walk = go(&mut memory, &regime, &fits);
+    assert_eq!(success(&walk).output, 0x8000_5FFC);
+    let crosses = Access {
+        address: 0x40_3FFD,
+        ..access(Kind::Read)
+    };
+    let walk = go(&mut memory, &regime, &crosses);
+    assert_eq!(walk.answer, Answer::Refused(7));
+}
+
+#[test]
+fn p12_pool_length() {
+    let (mut memory, mut regime) = start();
+    memory.resize(69_632, 0);
+    let walk = go(&mut memory, &regime, &access(Kind::Read));
+    assert_eq!(success(&walk).output, 0x8000_5ABC);
+    regime.pool.length = 69_632;
+    let walk = go(&mut memory, &regime, &access(Kind::Read));
+    assert_eq!(walk.answer, Answer::Refused(1));
+}
+
+/// Takes the cases without a library: they must keep the promises, meet all
+/// that can occur, and be as many as wanted.
+struct Survey {
+    tally: Tally,
+    count: u64,
+}
+
+impl Runner for Survey {
+    fn run(&mut self, memory: &mut Vec<u8>, case: &Case) {
+        self.count += 1;
+        let before = memory.clone();
+        let walk = walk(memory, case.regime, case.access);
+        let answer = plain_answer(&walk.answer);
+        promises::check(
+            case.regime,
+            case.access,
+            &answer,
+            &before,
+            memory,
+            walk.leaf.map(|(_, offset)| offset),
+            case.expect,
+        )
+        .unwrap_or_else(|broken| panic!("case {}: {broken}: {answer:?}", self.count));
+        self.tally.note(case, &before, &walk, &answer);
+    }
+}
+
+#[test]
+fn cases_meet_all_that_can_occur() {
+    let mut survey = Survey {
+        tally: Tally::default(),
+        count: 0,
+    };
+    run_all(1, &mut survey);
+    assert_eq!(survey.tally.missing(), []);
+    assert_eq!(survey.tally.strangers(), []);
+    assert!(survey.count >= 200_000, "{} cases", survey.count);
+}

@@ -1,0 +1,47 @@
+-- The order in which a call is checked: the first test that applies gives the refusal (01, "When the walker says no").
+use Prim.Native.Nat.{ℕ}
+use mathlib.Core.Bool.{Bool}
+use mathlib.Core.List.{List, [], _∷_, _++_}
+use Rattle.descriptor.specs.Bits.{pick}
+use Rattle.vmsa.specs.declared.Regime.{Regime}
+use Rattle.vmsa.specs.declared.Access.{Access}
+use Rattle.vmsa.specs.declared.Refusal.{Refusal}
+use Rattle.vmsa.specs.declared.Refusal.the-variants.{MemoryPool, PoolAddress, Sizes, Root, Attributes, AccessSize, PageCrossing}
+use Rattle.checks.specs.declared.Checked.{Checked}
+use Rattle.checks.specs.declared.Checked.the-variants.{Accepted, Refused}
+use Rattle.checks.specs.Tests.{memoryPoolBad, poolAddressBad, sizesBad, rootsBad, attributesBad, accessSizeBad, crossing}
+
+-- the refusal of the first test that applies, or else what the rest says
+abbrev pub firstBefore : List (Bool × Refusal) → Checked → Checked
+firstBefore [] rest = rest
+firstBefore (row ∷ rows) rest = pick (row .0) (Refused (row .1)) (firstBefore rows rest)
+
+abbrev pub firstOf : List (Bool × Refusal) → Checked
+firstOf rows = firstBefore rows Accepted
+
+-- setting a regime over n bytes of memory: 1 to 5
+abbrev pub regimeRows : ℕ → Regime → List (Bool × Refusal)
+regimeRows n r =
+    (memoryPoolBad n (r .pool), MemoryPool)
+    ∷ (poolAddressBad (r .pool), PoolAddress)
+    ∷ (sizesBad r, Sizes)
+    ∷ (rootsBad r, Root)
+    ∷ (attributesBad (r .attributes), Attributes)
+    ∷ []
+
+-- an access: 6 and 7
+abbrev pub accessRows : Access → List (Bool × Refusal)
+accessRows a = (accessSizeBad a, AccessSize) ∷ (crossing a, PageCrossing) ∷ []
+
+-- a plain walk: 1 to 7
+abbrev pub walkRows : ℕ → Regime → Access → List (Bool × Refusal)
+walkRows n r a = regimeRows n r ++ accessRows a
+
+unfoldable pub regimeCheck : ℕ → Regime → Checked
+regimeCheck n r = firstOf (regimeRows n r)
+
+unfoldable pub accessCheck : Access → Checked
+accessCheck a = firstOf (accessRows a)
+
+unfoldable pub walkCheck : ℕ → Regime → Access → Checked
+walkCheck n r a = firstOf (walkRows n r a)

@@ -1,0 +1,61 @@
+-- When a call is refused: one test for each row of 01, "When the walker says no". All sums are exact.
+use Prim.Native.Nat.{ℕ, zero, suc, _+_, _-_, _%_, _^_}
+use mathlib.Core.Bool.{Bool, true, false, not, _&&_, _||_}
+use lib.Dec.{leb, ltb, eqb}
+use Rattle.vmsa.specs.Limits.{memoryLimit, poolLimit, addressLimit, tszLeast, tszMost, outputMost, pageBits}
+use Rattle.vmsa.specs.Geometry.{unaligned, pageOf}
+use Rattle.vmsa.specs.Kinds.{isFetch, isProbe}
+use Rattle.vmsa.specs.Attributes.{attribute, device, normal}
+use Rattle.vmsa.specs.declared.Regime.{Regime}
+use Rattle.vmsa.specs.declared.Pool.{Pool}
+use Rattle.vmsa.specs.declared.Range.{Range}
+use Rattle.vmsa.specs.declared.Access.{Access}
+
+-- 1: memory above its limit; pool start or length not a multiple of 4,096; length 0 or above 65,536; pool passes the end of memory
+unfoldable pub memoryPoolBad : ℕ → Pool → Bool
+memoryPoolBad n pool =
+    ltb memoryLimit n || unaligned pageBits (pool .start) || unaligned pageBits (pool .length) || eqb (pool .length) 0 || ltb poolLimit (pool .length)
+    || ltb n (pool .start + pool .length)
+
+-- 2: pool address not a multiple of 4,096, or address + length above 2^48
+unfoldable pub poolAddressBad : Pool → Bool
+poolAddressBad pool = unaligned pageBits (pool .address .0) || ltb addressLimit (pool .address .0 + pool .length)
+
+-- 3: T of either range outside 16..39, or output code above 5
+unfoldable pub tszBad : ℕ → Bool
+tszBad t = ltb t tszLeast || ltb tszMost t
+
+unfoldable pub sizesBad : Regime → Bool
+sizesBad r = tszBad (r .range0 .tsz) || tszBad (r .range1 .tsz) || ltb outputMost (r .output)
+
+-- 4: either root not a multiple of 4,096, or not below 2^48
+unfoldable pub rootBad : ℕ → Bool
+rootBad root = unaligned pageBits root || leb addressLimit root
+
+unfoldable pub rootsBad : Regime → Bool
+rootsBad r = rootBad (r .range0 .root .0) || rootBad (r .range1 .root .0)
+
+-- 5: an attribute byte is neither Device nor Normal
+abbrev pub someBelow : ℕ → (ℕ → Bool) → Bool
+someBelow zero test = false
+someBelow (suc n) test = someBelow n test || test n
+
+unfoldable pub attributeBad : ℕ → Bool
+attributeBad b = not (device b || normal b)
+
+unfoldable pub attributesBad : ℕ → Bool
+attributesBad attributes = someBelow 8 (λ (i : ℕ). attributeBad (attribute attributes i))
+
+-- 6: size not 1, 2, 4, 8, 16; a fetch whose size is not 4 or address not a multiple of 4; a probe with size not 1
+unfoldable pub accessSizeBad : Access → Bool
+accessSizeBad a =
+    not (eqb (a .size) 1 || eqb (a .size) 2 || eqb (a .size) 4 || eqb (a .size) 8 || eqb (a .size) 16)
+    || isFetch (a .kind) && (not (eqb (a .size) 4) || not (eqb (a .address .0 % 4) 0))
+    || isProbe (a .kind) && not (eqb (a .size) 1)
+
+-- 7: first and last byte (counted modulo 2^64) lie in different 4 KiB pages
+unfoldable pub lastByte : Access → ℕ
+lastByte a = (a .address .0 + (a .size - 1)) % 2 ^ 64
+
+unfoldable pub crossing : Access → Bool
+crossing a = not (eqb (pageOf pageBits (a .address .0)) (pageOf pageBits (lastByte a)))

@@ -1,0 +1,144 @@
+-- Facts of any lookup, over any reader: how many descriptors it visits, and what holds of a leaf that it reaches.
+use Prim.Native.Nat.{ℕ, zero, suc, _+_, _*_, _-_, _/_, _%_, _^_, _<_, _≤_, zero-le, suc-le-suc}
+use mathlib.Core.Bool.{Bool, true, false, not, _&&_, _||_}
+use mathlib.Core.List.{List}
+use mathlib.Core.Path.{_≡_, refl, sym, ap, _∙_}
+use native.Mathlib.Omega.{arith}
+use lib.Dec.{leb, eqb}
+use lib.ListN.{length}
+use borrow.Author.Tests.{eqb-false, leb-true}
+use Rattle.descriptor.specs.Bytes.{desc}
+use Rattle.descriptor.specs.Bits.{pick}
+use Rattle.descriptor.proofs.Tests.{and-true, pick-both}
+use Rattle.vmsa.specs.Limits.{pageBits, tszLeast, Sized}
+use Rattle.vmsa.specs.Geometry.{levelOf, pageSize, span, strideBits, firstLeft, outputLimit, Paged}
+use Rattle.vmsa.proofs.Geometry.{paged, first-le}
+use Rattle.vmsa.specs.declared.Regime.{Regime}
+use Rattle.vmsa.specs.declared.PhysAddr.{PhysAddr}
+use Rattle.vmsa.specs.declared.FaultKind.the-variants.{ExternalAbort, Translation, AddressSize}
+use Rattle.lookup.specs.declared.Word.{Word}
+use Rattle.lookup.specs.declared.Word.the-variants.{Value, Unreachable}
+use Rattle.lookup.specs.declared.Next.{Next}
+use Rattle.lookup.specs.declared.Next.the-variants as next
+use Rattle.lookup.specs.declared.Context.{Context}
+use Rattle.lookup.specs.Trace.{End, fault, leaf, Trace, ended}
+use Rattle.lookup.specs.Steps.{decoded, fetched, onward, onWord, followed, entryAt, entered, descend, upper, rangeOf, outside, contextOf, locate}
+use Rattle.lookup.proofs.Decoding.{is-table, aligned8}
+
+clash : {A : Type 0} → _≡_ {A = ℕ} 0 1 → A
+clash z = absurd (eqb-false 0 1 refl z)
+
+-- ---- the length of the visited list
+
+visited-onward : (n : ℕ) (below : ℕ → Trace) (left a v : ℕ) → ((t : ℕ) → length (below t .visited) ≤ n) → (x : Next) → length (onward below left a v x .visited) ≤ n
+visited-onward n below left a v h (next.Fault kind) = zero-le
+visited-onward n below left a v h (next.Table table) = h (table .0)
+visited-onward n below left a v h next.Leaf = zero-le
+
+visited-word : (n : ℕ) (z : Trace) (f : ℕ → Trace) → length (z .visited) ≤ n → ((v : ℕ) → length (f v .visited) ≤ n) → (w : Word) → length (onWord z f w .visited) ≤ n
+visited-word n z f hz hf (Value v) = hf v
+visited-word n z f hz hf Unreachable = hz
+
+pub descend-visited : (c : Context) (read : ℕ → Word) (n t : ℕ) → length (descend c read n t .visited) ≤ n
+unfolding descend entered followed
+descend-visited c read zero t = zero-le
+descend-visited c read (suc n) t =
+    suc-le-suc
+    (visited-word n (ended (fault ExternalAbort (levelOf n))) (followed c (descend c read n) n (entryAt c n t)) zero-le
+    (λ v. visited-onward n (descend c read n) n (entryAt c n t) v (descend-visited c read n) (decoded (c .page) (c .limit) n v)) (read (entryAt c n t)))
+
+range-least : (r : Regime) (a : ℕ) → Sized r → tszLeast ≤ rangeOf r a .tsz
+unfolding rangeOf
+range-least r a z = by (upper a)
+  where
+    by : (b : Bool) → tszLeast ≤ pick b (r .range1) (r .range0) .tsz
+    by true = z .least1
+    by false = z .least0
+
+-- at most 4 descriptors are visited
+pub locate-visited : (r : Regime) (read : ℕ → Word) (a : ℕ) → Sized r → length (locate r read a .visited) ≤ 4
+unfolding locate
+locate-visited r read a z =
+    let range = rangeOf r a in
+    let c = contextOf r a in
+    let deep = descend c read (suc (firstLeft pageBits (range .tsz))) (range .root .0) in
+    let short : Trace → Type 0 = λ t. length (t .visited) ≤ 4 in
+    let beyond = leb (outputLimit (r .output)) (range .root .0) in
+    let h : length (deep .visited) ≤ 4 =
+    (let v = descend-visited c read (suc (firstLeft pageBits (range .tsz))) (range .root .0) in
+    let f = first-le pageBits (range .tsz) paged (range-least r a z) in
+    omega arith) in
+    pick-both short (range .disabled || outside (range .tsz) a) (ended (fault Translation 0)) (pick beyond (ended (fault AddressSize 0)) deep) zero-le
+    (pick-both short beyond (ended (fault AddressSize 0)) deep zero-le h)
+
+-- ---- a leaf that is reached
+
+-- it was read at that address, says that it is a leaf there, and lies at a multiple of 8
+pub record Reached (c : Context) (read : ℕ → Word) (a v left : ℕ) : Type 0 where
+  pub value : read a ≡ Value v
+  pub leads : decoded (c .page) (c .limit) left v ≡ next.Leaf
+  pub low : left ≤ 3
+  pub aligned : a % 8 ≡ 0
+
+abbrev pub Good : Context → (ℕ → Word) → End → Type 0
+Good c read (fault kind level) = Unit {0}
+Good c read (leaf a v left) = Reached c read a v left
+
+pub entry-aligned : (c : Context) (left t : ℕ) → t % 8 ≡ 0 → entryAt c left t % 8 ≡ 0
+unfolding entryAt
+entry-aligned c left t e = omega arith
+
+module _ (c : Context) (read : ℕ → Word) (g : Paged (c .page)) where
+  onward-good : (below : ℕ → Trace) (left a v : ℕ) → left ≤ 3 → a % 8 ≡ 0 → read a ≡ Value v → ((t : ℕ) → t % 8 ≡ 0 → Good c read (below t .end))
+      → (x : Next) → decoded (c .page) (c .limit) left v ≡ x → Good c read (onward below left a v x .end)
+  onward-good below left a v h e q k (next.Fault kind) d = tt
+  onward-good below left a v h e q k (next.Table table) d = k (table .0) (aligned8 (c .page) (table .0) g (is-table (c .page) (c .limit) left v table d .aligned))
+  onward-good below left a v h e q k next.Leaf d = record { value = q; leads = d; low = h; aligned = e }
+
+  word-good : (z : Trace) (f : ℕ → Trace) (a : ℕ) → Good c read (z .end) → ((v : ℕ) → read a ≡ Value v → Good c read (f v .end))
+      → (w : Word) → read a ≡ w → Good c read (onWord z f w .end)
+  word-good z f a hz hf (Value v) e = hf v e
+  word-good z f a hz hf Unreachable e = hz
+
+  pub descend-good : (n t : ℕ) → n ≤ 4 → t % 8 ≡ 0 → Good c read (descend c read n t .end)
+  unfolding descend entered followed
+  descend-good zero t h e = tt
+  descend-good (suc n) t h e =
+      let a = entryAt c n t in
+      word-good (ended (fault ExternalAbort (levelOf n))) (followed c (descend c read n) n a) a tt
+      (λ v q. onward-good (descend c read n) n a v (omega arith) (entry-aligned c n t e) q (λ u f. descend-good n u (omega arith) f) (decoded (c .page) (c .limit) n v) refl)
+      (read a) refl
+
+pub context-paged : (r : Regime) (a : ℕ) → Paged (contextOf r a .page)
+unfolding contextOf
+context-paged r a = paged
+
+pub locate-good : (r : Regime) (read : ℕ → Word) (a : ℕ) → Sized r → rangeOf r a .root .0 % 8 ≡ 0 → Good (contextOf r a) read (locate r read a .end)
+unfolding locate
+locate-good r read a z e =
+    let range = rangeOf r a in
+    let c = contextOf r a in
+    let deep = descend c read (suc (firstLeft pageBits (range .tsz))) (range .root .0) in
+    let good : Trace → Type 0 = λ t. Good c read (t .end) in
+    let beyond = leb (outputLimit (r .output)) (range .root .0) in
+    pick-both good (range .disabled || outside (range .tsz) a) (ended (fault Translation 0)) (pick beyond (ended (fault AddressSize 0)) deep) tt
+    (pick-both good beyond (ended (fault AddressSize 0)) deep tt
+    (descend-good c read (context-paged r a) (suc (firstLeft pageBits (range .tsz))) (range .root .0) (suc-le-suc (first-le pageBits (range .tsz) paged (range-least r a z))) e))
+
+-- ---- the reader over a pool
+
+-- a value that was read lies wholly in the pool, and is the descriptor there
+pub record InPool (pool : List ℕ) (base a v : ℕ) : Type 0 where
+  pub least : base ≤ a
+  pub most : a + 8 ≤ base + length pool
+  pub same : desc pool (a - base) ≡ v
+
+pub in-pool : (pool : List ℕ) (base a v : ℕ) → fetched pool base a ≡ Value v → InPool pool base a v
+unfolding fetched
+in-pool pool base a v e = by (leb base a && leb (a + 8) (base + length pool)) refl e
+  where
+    by : (b : Bool) → (leb base a && leb (a + 8) (base + length pool)) ≡ b → pick b (Value (desc pool (a - base))) Unreachable ≡ Value v → InPool pool base a v
+    by true h q =
+        let t = and-true (leb base a) (leb (a + 8) (base + length pool)) h in
+        record { least = leb-true base a (t .0); most = leb-true (a + 8) (base + length pool) (t .1); same = cc }
+    by false h q = clash (cc)

@@ -1,0 +1,77 @@
+-- Two readers that no step can tell apart: a lookup over both visits the same addresses and ends alike.
+-- The relation between values is any that decoding cannot see; Access flag and dirty updates are one such.
+use Prim.Native.Nat.{ℕ, zero, suc, _+_, _*_, _%_}
+use mathlib.Core.Bool.{Bool, true, false, _||_}
+use mathlib.Core.List.{List, [], _∷_}
+use mathlib.Core.Path.{_≡_, refl, sym, ap, subst, _∙_}
+use lib.Dec.{leb}
+use Rattle.descriptor.specs.Bits.{pick}
+use Rattle.vmsa.specs.Limits.{pageBits}
+use Rattle.vmsa.specs.Geometry.{levelOf, firstLeft, outputLimit, Paged}
+use Rattle.vmsa.specs.declared.Regime.{Regime}
+use Rattle.vmsa.specs.declared.FaultKind.{FaultKind}
+use Rattle.vmsa.specs.declared.FaultKind.the-variants.{ExternalAbort, Translation, AddressSize}
+use Rattle.lookup.specs.declared.Word.{Word}
+use Rattle.lookup.specs.declared.Word.the-variants.{Value, Unreachable}
+use Rattle.lookup.specs.declared.Next.{Next}
+use Rattle.lookup.specs.declared.Next.the-variants as next
+use Rattle.lookup.specs.declared.Context.{Context}
+use Rattle.lookup.specs.Trace.{End, fault, leaf, Trace, ended}
+use Rattle.lookup.specs.Steps.{decoded, onward, onWord, followed, entryAt, entered, descend, rangeOf, outside, contextOf, locate}
+use Rattle.lookup.proofs.Decoding.{is-table, aligned8}
+use Rattle.lookup.proofs.Reach.{entry-aligned, context-paged}
+
+-- both unreachable, or related values
+pub data AlikeWords (R : ℕ → ℕ → Type 0) : Word → Word → Type 0 where
+  unreachable : AlikeWords R Unreachable Unreachable
+  values : {v w : ℕ} → R v w → AlikeWords R (Value v) (Value w)
+
+-- the same fault, or leaves at the same address with related values
+pub data AlikeEnds (R : ℕ → ℕ → Type 0) : End → End → Type 0 where
+  faults : (kind : FaultKind) (level : ℕ) → AlikeEnds R (fault kind level) (fault kind level)
+  leaves : (a left : ℕ) {v w : ℕ} → R v w → AlikeEnds R (leaf a v left) (leaf a w left)
+
+pub record AlikeTraces (R : ℕ → ℕ → Type 0) (t u : Trace) : Type 0 where
+  pub visited : t .visited ≡ u .visited
+  pub ends : AlikeEnds R (t .end) (u .end)
+
+module _ (R : ℕ → ℕ → Type 0) (c : Context) (g : Paged (c .page))
+  (unseen : (left v w : ℕ) → R v w → decoded (c .page) (c .limit) left w ≡ decoded (c .page) (c .limit) left v)
+  (read read2 : ℕ → Word) (alike : (a : ℕ) → a % 8 ≡ 0 → AlikeWords R (read a) (read2 a)) where
+  onward-alike : (below below2 : ℕ → Trace) → ((t : ℕ) → t % 8 ≡ 0 → AlikeTraces R (below t) (below2 t)) → (left a v w : ℕ) → R v w
+      → (x : Next) → decoded (c .page) (c .limit) left v ≡ x → AlikeTraces R (onward below left a v x) (onward below2 left a w x)
+  onward-alike below below2 h left a v w k (next.Fault kind) d = record { visited = refl; ends = faults kind (levelOf left) }
+  onward-alike below below2 h left a v w k (next.Table table) d = h (table .0) (aligned8 (c .page) (table .0) g (is-table (c .page) (c .limit) left v table d .aligned))
+  onward-alike below below2 h left a v w k next.Leaf d = record { visited = refl; ends = leaves a left k }
+
+  word-alike : (below below2 : ℕ → Trace) → ((t : ℕ) → t % 8 ≡ 0 → AlikeTraces R (below t) (below2 t)) → (left a : ℕ) {x y : Word} → AlikeWords R x y
+      → AlikeTraces R (onWord (ended (fault ExternalAbort (levelOf left))) (followed c below left a) x) (onWord (ended (fault ExternalAbort (levelOf left))) (followed c below2 left a) y)
+  unfolding followed
+  word-alike below below2 h left a unreachable = record { visited = refl; ends = faults ExternalAbort (levelOf left) }
+  word-alike below below2 h left a (values {v = v} {w = w} k) =
+      subst (λ (x : Next). AlikeTraces R (onward below left a v (decoded (c .page) (c .limit) left v)) (onward below2 left a w x)) (sym (unseen left v w k))
+      (onward-alike below below2 h left a v w k (decoded (c .page) (c .limit) left v) refl)
+
+  pub descend-alike : (n t : ℕ) → t % 8 ≡ 0 → AlikeTraces R (descend c read n t) (descend c read2 n t)
+  unfolding descend entered
+  descend-alike zero t e = record { visited = refl; ends = faults Translation 3 }
+  descend-alike (suc n) t e =
+      let a = entryAt c n t in
+      let w = word-alike (descend c read n) (descend c read2 n) (λ u f. descend-alike n u f) n a (alike a (entry-aligned c n t e)) in
+      record { visited = ap (λ (l : List ℕ). a ∷ l) (w .visited); ends = w .ends }
+
+-- from the root on, where the root's address is a multiple of 8
+pub locate-alike : (R : ℕ → ℕ → Type 0) (r : Regime) (a : ℕ)
+    → ((left v w : ℕ) → R v w → decoded (contextOf r a .page) (contextOf r a .limit) left w ≡ decoded (contextOf r a .page) (contextOf r a .limit) left v)
+    → (read read2 : ℕ → Word) → ((x : ℕ) → x % 8 ≡ 0 → AlikeWords R (read x) (read2 x)) → rangeOf r a .root .0 % 8 ≡ 0 → AlikeTraces R (locate r read a) (locate r read2 a)
+unfolding locate
+locate-alike R r a unseen read read2 alike e =
+    let range = rangeOf r a in
+    by (range .disabled || outside (range .tsz) a) (leb (outputLimit (r .output)) (range .root .0))
+    (descend-alike R (contextOf r a) (context-paged r a) unseen read read2 alike (suc (firstLeft pageBits (range .tsz))) (range .root .0) e)
+  where
+    by : {t u : Trace} (off beyond : Bool) → AlikeTraces R t u
+        → AlikeTraces R (pick off (ended (fault Translation 0)) (pick beyond (ended (fault AddressSize 0)) t)) (pick off (ended (fault Translation 0)) (pick beyond (ended (fault AddressSize 0)) u))
+    by true beyond h = record { visited = refl; ends = faults Translation 0 }
+    by false true h = record { visited = refl; ends = faults AddressSize 0 }
+    by false false h = h

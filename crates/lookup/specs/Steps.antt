@@ -1,0 +1,104 @@
+-- Steps 1 to 5 of the walk (01, "The walk"): from a guest address to a leaf, or a fault. A reader says what stands at a descriptor address.
+use Prim.Native.Nat.{ℕ, zero, suc, _+_, _*_, _-_, _/_, _%_, _^_, _<_}
+use mathlib.Core.Bool.{Bool, true, false, not, _&&_, _||_}
+use mathlib.Core.List.{List}
+use lib.Dec.{leb, eqb}
+use lib.ListN.{length}
+use Rattle.descriptor.specs.Bytes.{desc}
+use Rattle.descriptor.specs.Bits.{pick, bit}
+use Rattle.vmsa.specs.Limits.{addressLimit, pageBits}
+use Rattle.vmsa.specs.Geometry.{levelOf, pageSize, span, strideBits, blockAt, firstLeft, cut, outputLimit}
+use Rattle.vmsa.specs.declared.Regime.{Regime}
+use Rattle.vmsa.specs.declared.Range.{Range}
+use Rattle.vmsa.specs.declared.FaultKind.{FaultKind}
+use Rattle.vmsa.specs.declared.FaultKind.the-variants.{AddressSize, Translation, ExternalAbort}
+use Rattle.lookup.specs.declared.Word.{Word}
+use Rattle.lookup.specs.declared.Word.the-variants.{Value, Unreachable}
+use Rattle.lookup.specs.declared.Next.{Next}
+use Rattle.lookup.specs.declared.Next.the-variants as next
+use Rattle.lookup.specs.declared.Context.{Context}
+use Rattle.lookup.specs.Trace.{End, fault, leaf, Trace, ended, visit}
+
+-- ---- steps 4 and 5: what a descriptor says at a level, for page bits p
+
+-- bit 0 clear, or bits 1..0 = 01 at a level without blocks
+unfoldable pub invalid : ℕ → ℕ → ℕ → Bool
+invalid p left v = not (bit 0 v) || not (bit 1 v) && not (blockAt p left)
+
+-- 11 above the last level is a table
+unfoldable pub isTable : ℕ → ℕ → Bool
+isTable left v = bit 1 v && not (eqb left 0)
+
+-- the address of a table, and the output address of a block or page
+unfoldable pub addressIn : ℕ → ℕ → ℕ → ℕ
+addressIn p left v = cut v (pick (isTable left v) (pageSize p) (span p left))
+
+unfoldable pub decoded : ℕ → ℕ → ℕ → ℕ → Next
+decoded p limit left v =
+    pick (invalid p left v) (next.Fault Translation)
+    (pick (leb limit (addressIn p left v)) (next.Fault AddressSize)
+    (pick (isTable left v) (next.Table (record { 0 = addressIn p left v })) next.Leaf))
+
+-- ---- step 3: reading a descriptor
+
+-- the value at an address, where the descriptor lies wholly in the pool
+unfoldable pub fetched : List ℕ → ℕ → ℕ → Word
+fetched pool base a = pick (leb base a && leb (a + 8) (base + length pool)) (Value (desc pool (a - base))) Unreachable
+
+-- ---- one level: its entry is read, and followed
+
+-- the address of a table's entry: the index is the input's bits at that level (step 2)
+unfoldable pub entryAt : Context → ℕ → ℕ → ℕ
+entryAt c left table = table + 8 * (c .input / span (c .page) left % 2 ^ strideBits (c .page))
+
+-- where the descriptor v at address a leads; below goes on at a table, one level lower
+abbrev pub onward : (ℕ → Trace) → ℕ → ℕ → ℕ → Next → Trace
+onward below left a v (next.Fault kind) = ended (fault kind (levelOf left))
+onward below left a v (next.Table table) = below (table .0)
+onward below left a v next.Leaf = ended (leaf a v left)
+
+unfoldable pub followed : Context → (ℕ → Trace) → ℕ → ℕ → ℕ → Trace
+followed c below left a v = onward below left a v (decoded (c .page) (c .limit) left v)
+
+abbrev pub onWord : Trace → (ℕ → Trace) → Word → Trace
+onWord unreachable value (Value v) = value v
+onWord unreachable value Unreachable = unreachable
+
+unfoldable pub entered : Context → (ℕ → Word) → (ℕ → Trace) → ℕ → ℕ → Trace
+entered c read below left table =
+    visit (entryAt c left table)
+    (onWord (ended (fault ExternalAbort (levelOf left))) (followed c below left (entryAt c left table)) (read (entryAt c left table)))
+
+-- n levels from a table on; the last has no levels left
+unfoldable pub descend : Context → (ℕ → Word) → ℕ → ℕ → Trace
+descend c read zero table = ended (fault Translation 3)
+descend c read (suc left) table = entered c read (descend c read left) left table
+
+-- ---- steps 1 and 2
+
+-- bit 55 picks range 0 or 1
+unfoldable pub upper : ℕ → Bool
+upper a = bit 55 a
+
+unfoldable pub rangeOf : Regime → ℕ → Range
+rangeOf r a = pick (upper a) (r .range1) (r .range0)
+
+-- address bits 63 down to 64 - t are not all 0 (range 0) or all 1 (range 1)
+unfoldable pub outside : ℕ → ℕ → Bool
+outside t a = not (eqb (a / 2 ^ (64 - t)) (pick (upper a) (2 ^ t - 1) 0))
+
+-- what the levels share: the index is cut at the first level to bits below 64 - t
+unfoldable pub contextOf : Regime → ℕ → Context
+contextOf r a = record { base = r .pool .address; limit = outputLimit (r .output); input = a % 2 ^ (64 - rangeOf r a .tsz); page = pageBits }
+
+unfoldable pub locate : Regime → (ℕ → Word) → ℕ → Trace
+locate r read a =
+    pick (rangeOf r a .disabled || outside (rangeOf r a .tsz) a) (ended (fault Translation 0))
+    (pick (leb (outputLimit (r .output)) (rangeOf r a .root .0)) (ended (fault AddressSize 0))
+    (descend (contextOf r a) read (suc (firstLeft pageBits (rangeOf r a .tsz))) (rangeOf r a .root .0)))
+
+-- what a walk can rely on where a table follows
+abbrev pub Sound : ℕ → Next → Type 0
+Sound left (next.Fault kind) = Unit {0}
+Sound left (next.Table table) = (table .0 < addressLimit) × (0 < left)
+Sound left next.Leaf = Unit {0}

@@ -1,0 +1,11 @@
+use borrow.Author.Needs.{needs}
+use Rattle.permission.specs.Permission.{writable}
+use Rattle.permission.proofs.writable.Statement.{statement}
+use Rattle.permission.proofs.writable.Tie as tie
+
+returns : tie.Need-returns
+unfolding writable
+returns c = cc
+
+pub writable-spec : {M : Type 1} → statement M
+writable-spec = tie.close (tie.spec (λ c κs. search needs) (λ c κs. search needs) returns)

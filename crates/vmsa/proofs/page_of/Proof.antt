@@ -1,0 +1,11 @@
+use borrow.Author.Needs.{needs}
+use Rattle.vmsa.specs.Geometry.{pageOf}
+use Rattle.vmsa.proofs.page_of.Statement.{statement}
+use Rattle.vmsa.proofs.page_of.Tie as tie
+
+returns : tie.Need-returns
+unfolding pageOf
+returns c = rw (c .before .page-size .ensures .0)
+
+pub page-of-spec : {M : Type 1} → statement M
+page-of-spec = tie.close (tie.spec (λ c κs. search needs) (λ c. search needs) returns)

@@ -1,0 +1,43 @@
+-- The fields of a leaf descriptor (01, "The walk").
+use Prim.Native.Nat.{ℕ}
+use mathlib.Core.Bool.{Bool}
+use Rattle.descriptor.specs.Bits.{bit, field, setBit, clearBit}
+
+abbrev pub attributeIndex : ℕ → ℕ
+attributeIndex v = field 2 3 v
+
+-- AP[1]: EL0 may access
+abbrev pub ap1 : ℕ → Bool
+ap1 v = bit 6 v
+
+-- AP[2]: read-only, or, with DBM, clean
+abbrev pub ap2 : ℕ → Bool
+ap2 v = bit 7 v
+
+abbrev pub shareability : ℕ → ℕ
+shareability v = field 8 2 v
+
+-- the Access flag
+abbrev pub af : ℕ → Bool
+af v = bit 10 v
+
+-- nG
+abbrev pub nonglobal : ℕ → Bool
+nonglobal v = bit 11 v
+
+-- the dirty bit modifier
+abbrev pub dbm : ℕ → Bool
+dbm v = bit 51 v
+
+abbrev pub pxn : ℕ → Bool
+pxn v = bit 53 v
+
+abbrev pub uxn : ℕ → Bool
+uxn v = bit 54 v
+
+-- the two updates of a leaf: the Access flag set, and AP[2] cleared
+abbrev pub setAf : ℕ → ℕ
+setAf v = setBit 10 v
+
+abbrev pub clearAp2 : ℕ → ℕ
+clearAp2 v = clearBit 7 v

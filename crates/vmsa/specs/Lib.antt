@@ -1,0 +1,7 @@
+pub mod Limits
+pub mod Geometry
+pub mod Kinds
+pub mod Attributes
+pub mod Fields
+pub mod Answers
+pub mod Settings

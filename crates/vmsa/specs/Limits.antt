@@ -1,0 +1,37 @@
+-- Each limit of 01, named once.
+use Prim.Native.Nat.{ℕ, _≤_, _^_}
+use Rattle.vmsa.specs.declared.Regime.{Regime}
+
+-- the most bytes of lent memory (01, "The guest, its pool and its regime")
+abbrev pub memoryLimit : ℕ
+memoryLimit = 1048576
+
+-- the most bytes of a pool (01, row 1)
+abbrev pub poolLimit : ℕ
+poolLimit = 65536
+
+-- physical addresses are below this (01, rows 2 and 4)
+abbrev pub addressLimit : ℕ
+addressLimit = 2 ^ 48
+
+-- the size field T of a range, and the output size code (01, row 3)
+abbrev pub tszLeast : ℕ
+tszLeast = 16
+
+abbrev pub tszMost : ℕ
+tszMost = 39
+
+abbrev pub outputMost : ℕ
+outputMost = 5
+
+-- page bits of the 4 KiB granule (01, "The guest, its pool and its regime")
+abbrev pub pageBits : ℕ
+pageBits = 12
+
+-- what row 3 leaves of a regime
+pub record Sized (r : Regime) : Type 0 where
+  pub least0 : tszLeast ≤ r .range0 .tsz
+  pub most0 : r .range0 .tsz ≤ tszMost
+  pub least1 : tszLeast ≤ r .range1 .tsz
+  pub most1 : r .range1 .tsz ≤ tszMost
+  pub output : r .output ≤ outputMost

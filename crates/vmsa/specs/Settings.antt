@@ -1,0 +1,48 @@
+-- A regime with one setting changed, and the regime to start from (01, "The guest, its pool and its regime").
+use Prim.Native.Nat.{ℕ}
+use mathlib.Core.Bool.{Bool, true, false}
+use Rattle.vmsa.specs.declared.Regime.{Regime}
+use Rattle.vmsa.specs.declared.Pool.{Pool}
+use Rattle.vmsa.specs.declared.Range.{Range}
+use Rattle.vmsa.specs.Limits.{tszLeast, outputMost}
+
+-- a disabled range
+abbrev pub disabledRange : Range
+disabledRange = record { root = record { 0 = 0 }; tsz = tszLeast; disabled = true }
+
+-- no pool yet, both ranges disabled, 48 bits of output, no updates, Device memory only
+abbrev pub initial : Regime
+initial = record {
+  pool = record { start = 0; length = 0; address = record { 0 = 0 } };
+  range0 = disabledRange;
+  range1 = disabledRange;
+  output = outputMost;
+  ha = false;
+  hd = false;
+  wxn = false;
+  attributes = 0;
+}
+
+abbrev pub withPool : Regime → Pool → Regime
+withPool r x = record { pool = x; range0 = r .range0; range1 = r .range1; output = r .output; ha = r .ha; hd = r .hd; wxn = r .wxn; attributes = r .attributes }
+
+abbrev pub withRange0 : Regime → Range → Regime
+withRange0 r x = record { pool = r .pool; range0 = x; range1 = r .range1; output = r .output; ha = r .ha; hd = r .hd; wxn = r .wxn; attributes = r .attributes }
+
+abbrev pub withRange1 : Regime → Range → Regime
+withRange1 r x = record { pool = r .pool; range0 = r .range0; range1 = x; output = r .output; ha = r .ha; hd = r .hd; wxn = r .wxn; attributes = r .attributes }
+
+abbrev pub withOutput : Regime → ℕ → Regime
+withOutput r x = record { pool = r .pool; range0 = r .range0; range1 = r .range1; output = x; ha = r .ha; hd = r .hd; wxn = r .wxn; attributes = r .attributes }
+
+abbrev pub withHa : Regime → Bool → Regime
+withHa r x = record { pool = r .pool; range0 = r .range0; range1 = r .range1; output = r .output; ha = x; hd = r .hd; wxn = r .wxn; attributes = r .attributes }
+
+abbrev pub withHd : Regime → Bool → Regime
+withHd r x = record { pool = r .pool; range0 = r .range0; range1 = r .range1; output = r .output; ha = r .ha; hd = x; wxn = r .wxn; attributes = r .attributes }
+
+abbrev pub withWxn : Regime → Bool → Regime
+withWxn r x = record { pool = r .pool; range0 = r .range0; range1 = r .range1; output = r .output; ha = r .ha; hd = r .hd; wxn = x; attributes = r .attributes }
+
+abbrev pub withAttributes : Regime → ℕ → Regime
+withAttributes r x = record { pool = r .pool; range0 = r .range0; range1 = r .range1; output = r .output; ha = r .ha; hd = r .hd; wxn = r .wxn; attributes = x }

@@ -1,0 +1,434 @@
+// VMSAv8-64: addresses, the translation regime, an access, its answer, and the geometry of the tables.
+ghost use mathlib.Core.Path.{_≡_};
+ghost use Prim.Native.Nat.{_≤_, _<_, _^_};
+ghost use Rattle.vmsa.specs.Limits.{tszLeast, tszMost, outputMost, addressLimit};
+ghost use Rattle.vmsa.specs.Geometry.{pageSize as pageSizeOf, unaligned as unalignedAt, pageOf, levelOf, strideBits, shiftOf, span as spanOf, blockAt, firstLeft, cut as cutAt, outputLimit, Paged};
+ghost use Rattle.vmsa.specs.Kinds.{isFetch, isProbe, asksWrite, writes as writesOf};
+ghost use Rattle.vmsa.specs.Attributes.{attribute as attributeOf, device as deviceOf, normal as normalOf};
+ghost use Rattle.vmsa.specs.Answers.{numberOf, codeOf};
+ghost use Rattle.vmsa.specs.Settings.{initial, withPool, withRange0, withRange1, withOutput, withHa, withHd, withWxn, withAttributes};
+
+// The limits of the pool, the memory and the regime; specs/Limits.antt has the same numbers.
+pub const MEMORY_LIMIT: usize = 1048576;
+pub const POOL_LIMIT: usize = 65536;
+pub const ADDRESS_LIMIT: u64 = 281474976710656;
+pub const TSZ_LEAST: u8 = 16;
+pub const TSZ_MOST: u8 = 39;
+pub const OUTPUT_MOST: u8 = 5;
+pub const PAGE_BITS: u8 = 12;
+
+// Bits of a leaf descriptor; specs/Fields.antt has the same numbers.
+pub const AP1: u8 = 6;
+pub const AP2: u8 = 7;
+pub const AF: u8 = 10;
+pub const NG: u8 = 11;
+pub const DBM: u8 = 51;
+pub const PXN: u8 = 53;
+pub const UXN: u8 = 54;
+
+// A physical address.
+pub struct PhysAddr(pub u64);
+
+// An address of the guest.
+pub struct VirtAddr(pub u64);
+
+// The table pool: its part of the lent memory, and the physical address of its first byte.
+pub struct Pool {
+    pub start: usize,
+    pub length: usize,
+    pub address: PhysAddr,
+}
+
+// One of the two ranges of guest addresses: its root table, its size field T, its disabled bit.
+pub struct Range {
+    pub root: PhysAddr,
+    pub tsz: u8,
+    pub disabled: bool,
+}
+
+// A translation regime: stage 1 of EL1&0.
+pub struct Regime {
+    pub pool: Pool,
+    pub range0: Range,
+    pub range1: Range,
+    pub output: u8,
+    pub ha: bool,
+    pub hd: bool,
+    pub wxn: bool,
+    pub attributes: u64,
+}
+
+pub enum AccessKind {
+    Read,
+    Write,
+    Update,
+    Fetch,
+    ProbeRead,
+    ProbeWrite,
+}
+
+// An access of size bytes at an address, from EL0 or else EL1.
+pub struct Access {
+    pub address: VirtAddr,
+    pub size: u64,
+    pub el0: bool,
+    pub kind: AccessKind,
+}
+
+// What an access that succeeds is told. accessed and dirtied: this access set the Access flag, cleared AP[2].
+// cacheable: it may be remembered. reads: the count of descriptor reads.
+pub struct Success {
+    pub output: PhysAddr,
+    pub attribute: u8,
+    pub shareability: u8,
+    pub nonglobal: bool,
+    pub level: u8,
+    pub accessed: bool,
+    pub dirtied: bool,
+    pub cacheable: bool,
+    pub reads: u8,
+}
+
+pub enum FaultKind {
+    AddressSize,
+    Translation,
+    AccessFlag,
+    Permission,
+    ExternalAbort,
+    Alignment,
+}
+
+pub struct Fault {
+    pub kind: FaultKind,
+    pub level: u8,
+    pub cacheable: bool,
+    pub reads: u8,
+}
+
+// Why a call is refused, in the order of the numbers 1 to 9.
+pub enum Refusal {
+    MemoryPool,
+    PoolAddress,
+    Sizes,
+    Root,
+    Attributes,
+    AccessSize,
+    PageCrossing,
+    StoreAddress,
+    NoRegime,
+}
+
+pub enum Answer {
+    Success(Success),
+    Fault(Fault),
+    Refused(Refusal),
+}
+
+// The block or page descriptor that a walk ends in: its value, and the levels left below it.
+pub struct Leaf {
+    pub value: u64,
+    pub left: u8,
+}
+
+impl Regime {
+    // No pool yet, both ranges disabled, 48 bits of output, no updates, Device memory only.
+    pub fn new() -> Self
+        ensures { λ r. ⌜ r ≡ initial ⌝ }
+    {
+        let range = Range {
+            root: PhysAddr(0),
+            tsz: TSZ_LEAST,
+            disabled: true,
+        };
+        Regime {
+            pool: Pool {
+                start: 0,
+                length: 0,
+                address: PhysAddr(0),
+            },
+            range0: range,
+            range1: range,
+            output: OUTPUT_MOST,
+            ha: false,
+            hd: false,
+            wxn: false,
+            attributes: 0,
+        }
+    }
+
+    pub fn with_pool(mut self, pool: Pool) -> Self
+        ensures { λ r. ⌜ r ≡ withPool self pool ⌝ }
+    {
+        self.pool = pool;
+        self
+    }
+
+    pub fn with_range0(mut self, range0: Range) -> Self
+        ensures { λ r. ⌜ r ≡ withRange0 self range0 ⌝ }
+    {
+        self.range0 = range0;
+        self
+    }
+
+    pub fn with_range1(mut self, range1: Range) -> Self
+        ensures { λ r. ⌜ r ≡ withRange1 self range1 ⌝ }
+    {
+        self.range1 = range1;
+        self
+    }
+
+    pub fn with_output(mut self, output: u8) -> Self
+        ensures { λ r. ⌜ r ≡ withOutput self output ⌝ }
+    {
+        self.output = output;
+        self
+    }
+
+    pub fn with_ha(mut self, ha: bool) -> Self
+        ensures { λ r. ⌜ r ≡ withHa self ha ⌝ }
+    {
+        self.ha = ha;
+        self
+    }
+
+    pub fn with_hd(mut self, hd: bool) -> Self
+        ensures { λ r. ⌜ r ≡ withHd self hd ⌝ }
+    {
+        self.hd = hd;
+        self
+    }
+
+    pub fn with_wxn(mut self, wxn: bool) -> Self
+        ensures { λ r. ⌜ r ≡ withWxn self wxn ⌝ }
+    {
+        self.wxn = wxn;
+        self
+    }
+
+    pub fn with_attributes(mut self, attributes: u64) -> Self
+        ensures { λ r. ⌜ r ≡ withAttributes self attributes ⌝ }
+    {
+        self.attributes = attributes;
+        self
+    }
+}
+
+impl AccessKind {
+    pub fn is_fetch(self) -> bool
+        ensures { λ r. ⌜ r ≡ isFetch self ⌝ }
+    {
+        match self {
+            AccessKind::Read => false,
+            AccessKind::Write => false,
+            AccessKind::Update => false,
+            AccessKind::Fetch => true,
+            AccessKind::ProbeRead => false,
+            AccessKind::ProbeWrite => false,
+        }
+    }
+
+    pub fn is_probe(self) -> bool
+        ensures { λ r. ⌜ r ≡ isProbe self ⌝ }
+    {
+        match self {
+            AccessKind::Read => false,
+            AccessKind::Write => false,
+            AccessKind::Update => false,
+            AccessKind::Fetch => false,
+            AccessKind::ProbeRead => true,
+            AccessKind::ProbeWrite => true,
+        }
+    }
+
+    // Whether it asks for permission to write.
+    pub fn asks_write(self) -> bool
+        ensures { λ r. ⌜ r ≡ asksWrite self ⌝ }
+    {
+        match self {
+            AccessKind::Read => false,
+            AccessKind::Write => true,
+            AccessKind::Update => true,
+            AccessKind::Fetch => false,
+            AccessKind::ProbeRead => false,
+            AccessKind::ProbeWrite => true,
+        }
+    }
+
+    // Whether it writes, and so makes a page dirty.
+    pub fn writes(self) -> bool
+        ensures { λ r. ⌜ r ≡ writesOf self ⌝ }
+    {
+        match self {
+            AccessKind::Read => false,
+            AccessKind::Write => true,
+            AccessKind::Update => true,
+            AccessKind::Fetch => false,
+            AccessKind::ProbeRead => false,
+            AccessKind::ProbeWrite => false,
+        }
+    }
+}
+
+impl Refusal {
+    // The number of the paper.
+    pub fn number(self) -> u8
+        ensures { λ r. ⌜ r ≡ numberOf self ⌝ }
+    {
+        match self {
+            Refusal::MemoryPool => 1,
+            Refusal::PoolAddress => 2,
+            Refusal::Sizes => 3,
+            Refusal::Root => 4,
+            Refusal::Attributes => 5,
+            Refusal::AccessSize => 6,
+            Refusal::PageCrossing => 7,
+            Refusal::StoreAddress => 8,
+            Refusal::NoRegime => 9,
+        }
+    }
+}
+
+impl Fault {
+    // The fault status code.
+    pub fn code(self) -> u16
+        ensures { λ r. ⌜ r ≡ codeOf (self .kind) (self .level) ⌝ }
+    {
+        let kind = self.kind;
+        let level = self.level as u16;
+        match kind {
+            FaultKind::AddressSize => level,
+            FaultKind::Translation => 4 + level,
+            FaultKind::AccessFlag => 8 + level,
+            FaultKind::Permission => 12 + level,
+            FaultKind::ExternalAbort => 20 + level,
+            FaultKind::Alignment => 33,
+        }
+    }
+}
+
+// The bytes of a page, and of a table.
+pub fn page_size(p: u8) -> u64
+    requires { ⌜ p ≤ 16 ⌝ }
+    ensures { λ r. ⌜ (r ≡ pageSizeOf p) × (0 < r) ⌝ }
+{
+    descriptor::power(p)
+}
+
+pub fn unaligned(p: u8, x: u64) -> bool
+    requires { ⌜ p ≤ 16 ⌝ }
+    ensures { λ r. ⌜ r ≡ unalignedAt p x ⌝ }
+{
+    x % page_size(p) != 0
+}
+
+// The page number of an address.
+pub fn page_of(p: u8, a: VirtAddr) -> u64
+    requires { ⌜ p ≤ 16 ⌝ }
+    ensures { λ r. ⌜ r ≡ pageOf p (a .0) ⌝ }
+{
+    a.0 / page_size(p)
+}
+
+// How many entries a table has.
+pub fn entries(p: u8) -> u64
+    requires { ⌜ Paged p ⌝ }
+    ensures { λ r. ⌜ (r ≡ 2 ^ strideBits p) × (0 < r) × (r ≤ 8192) ⌝ }
+{
+    descriptor::power(p - 3)
+}
+
+// The level, from the levels left below it.
+pub fn level(left: u8) -> u8
+    requires { ⌜ left ≤ 3 ⌝ }
+    ensures { λ r. ⌜ r ≡ levelOf left ⌝ }
+{
+    3 - left
+}
+
+// The lowest address bit of a level's index.
+fn shift_of(p: u8, left: u8) -> u8
+    requires { ⌜ Paged p × (left ≤ 3) ⌝ }
+    ensures { λ r. ⌜ (r ≡ shiftOf p left) × (r ≤ 55) ⌝ }
+{
+    p + (p - 3) * left
+}
+
+// How many bytes an entry of a level maps.
+pub fn span(p: u8, left: u8) -> u64
+    requires { ⌜ Paged p × (left ≤ 3) ⌝ }
+    ensures { λ r. ⌜ (r ≡ spanOf p left) × (0 < r) × (r ≤ 2 ^ 55) ⌝ }
+{
+    descriptor::power(shift_of(p, left))
+}
+
+// Whether a level has blocks.
+pub fn block_at(p: u8, left: u8) -> bool
+    requires { ⌜ Paged p × (left ≤ 3) ⌝ }
+    ensures { λ r. ⌜ r ≡ blockAt p left ⌝ }
+{
+    (1 <= left) & (shift_of(p, left) <= 30)
+}
+
+// The levels left at the first level of a range.
+pub fn first_left(p: u8, t: u8) -> u8
+    requires { ⌜ Paged p × (tszLeast ≤ t) × (t ≤ tszMost) ⌝ }
+    ensures { λ r. ⌜ (r ≡ firstLeft p t) × (r ≤ 3) ⌝ }
+{
+    let stride = p - 3;
+    let bits = 63 - t - p;
+    if bits < stride {
+        return 0;
+    }
+    if bits < 2 * stride {
+        return 1;
+    }
+    if bits < 3 * stride {
+        return 2;
+    }
+    3
+}
+
+// The address in bits 47 down, cut to a multiple of s.
+pub fn cut(v: u64, s: u64) -> u64
+    requires { ⌜ 0 < s ⌝ }
+    ensures { λ r. ⌜ (r ≡ cutAt v s) × (r < addressLimit) ⌝ }
+{
+    v % ADDRESS_LIMIT / s * s
+}
+
+// The end of the output addresses.
+pub fn output_limit(code: u8) -> u64
+    requires { ⌜ code ≤ outputMost ⌝ }
+    ensures { λ r. ⌜ (r ≡ outputLimit code) × (r ≤ addressLimit) ⌝ }
+{
+    match code {
+        0 => 4294967296,
+        1 => 68719476736,
+        2 => 1099511627776,
+        3 => 4398046511104,
+        4 => 17592186044416,
+        _ => 281474976710656,
+    }
+}
+
+// Attribute byte i.
+pub fn attribute(attributes: u64, i: u8) -> u8
+    requires { ⌜ i < 8 ⌝ }
+    ensures { λ r. ⌜ r ≡ attributeOf attributes i ⌝ }
+{
+    descriptor::field(attributes, 8 * i, 8) as u8
+}
+
+// Whether an attribute byte says Device memory.
+pub fn device(b: u8) -> bool
+    ensures { λ r. ⌜ r ≡ deviceOf b ⌝ }
+{
+    (b == 0) | (b == 4) | (b == 8) | (b == 12)
+}
+
+// Whether an attribute byte says Normal memory.
+pub fn normal(b: u8) -> bool
+    ensures { λ r. ⌜ r ≡ normalOf b ⌝ }
+{
+    !(b / 16 == 0) & !(b % 16 == 0)
+}

@@ -1,0 +1,64 @@
+-- The plain walk (01): the checks, steps 1 to 5, steps 6 to 8, and the leaf's new value put back into the pool.
+use Prim.Native.Nat.{ℕ, _+_, _-_}
+use mathlib.Core.Bool.{Bool, false}
+use mathlib.Core.List.{List, _++_}
+use lib.ListN.{length, take, drop}
+use Rattle.descriptor.specs.Bytes.{put}
+use Rattle.descriptor.specs.Bits.{pick}
+use Rattle.vmsa.specs.Answers.{Result, fault as faulted, refused, codeOf, numberOf, view}
+use Rattle.vmsa.specs.declared.Regime.{Regime}
+use Rattle.vmsa.specs.declared.Pool.{Pool}
+use Rattle.vmsa.specs.declared.Access.{Access}
+use Rattle.vmsa.specs.declared.Answer.{Answer}
+use Rattle.checks.specs.declared.Checked.{Checked}
+use Rattle.checks.specs.declared.Checked.the-variants.{Accepted, Refused}
+use Rattle.checks.specs.Order.{walkCheck}
+use Rattle.lookup.specs.Trace.{End, fault, leaf, Trace}
+use Rattle.lookup.specs.Steps.{fetched, locate}
+use Rattle.permission.specs.Decision.{Decision, decision}
+
+-- an answer in the paper's values, and the bytes afterwards
+pub record Outcome : Type 0 where
+  pub result : Result
+  pub bytes : List ℕ
+
+-- an answer of the code with the bytes that it left
+abbrev pub outcome : Answer → List ℕ → Outcome
+outcome answer bytes = record { result = view answer; bytes = bytes }
+
+-- the pool's bytes, and the memory with these bytes for the pool (01, "The guest, its pool and its regime")
+abbrev pub poolOf : Pool → List ℕ → List ℕ
+poolOf p memory = take (p .length) (drop (p .start) memory)
+
+abbrev pub withPool : Pool → List ℕ → List ℕ → List ℕ
+withPool p memory bytes = take (p .start) memory ++ bytes ++ drop (p .start + p .length) memory
+
+-- what a leaf decides, with its new value put where the descriptor lies
+abbrev pub settled : List ℕ → ℕ → Decision → Outcome
+settled pool at d = record { result = d .result; bytes = pick (d .update) (put pool at (d .value)) pool }
+
+-- the end of steps 1 to 5 taken to the answer; a fault may not be remembered and changes nothing
+abbrev pub concluded : Regime → Access → List ℕ → ℕ → End → Outcome
+concluded r a pool reads (fault kind level) =
+    record { result = faulted (record { code = codeOf kind level; level = level; cacheable = false; reads = reads }); bytes = pool }
+concluded r a pool reads (leaf at v left) = settled pool (at - r .pool .address .0) (decision r a (record { value = v; left = left }) reads)
+
+-- the descriptors that a walk visits in the pool, and their end
+unfoldable pub traced : Regime → List ℕ → ℕ → Trace
+traced r pool address = locate r (fetched pool (r .pool .address .0)) address
+
+-- the walk over the pool's bytes; the count of reads is the length of the visited list
+unfoldable pub walkPool : Regime → Access → List ℕ → Outcome
+walkPool r a pool = concluded r a pool (length (traced r pool (a .address .0) .visited)) (traced r pool (a .address .0) .end)
+
+-- a refusal carries its number alone and changes nothing
+abbrev pub checked : Regime → Access → List ℕ → Checked → Outcome
+checked r a memory (Refused x) = record { result = refused (numberOf x); bytes = memory }
+checked r a memory Accepted = record {
+  result = walkPool r a (poolOf (r .pool) memory) .result;
+  bytes = withPool (r .pool) memory (walkPool r a (poolOf (r .pool) memory) .bytes);
+}
+
+-- the plain walk over the lent memory
+unfoldable pub walk : Regime → Access → List ℕ → Outcome
+walk r a memory = checked r a memory (walkCheck (length memory) r a)
