@@ -1,0 +1,23 @@
+use borrow.Author.Needs.{needs}
+use Rattle.capi.specs.Words.{regimeOf}
+use Rattle.capi.proofs.regime_of.Statement.{statement}
+use Rattle.capi.proofs.regime_of.Tie as tie
+
+returns : tie.Need-returns
+unfolding regimeOf
+returns c = rw (c .with-attributes .ensures, c .before .with-wxn .ensures, c .before .before .before .with-hd .ensures, c .before .before .before .before .before .with-ha .ensures, c .before .before .before .before .before .before .before .with-output .ensures, c .before .before .before .before .before .before .before .before .with-range1 .ensures, c .before .before .before .before .before .before .before .before .before .with-range0 .ensures, c .before .before .before .before .before .before .before .before .before .before .with-pool .ensures)
+
+pub regime-of-spec : {M : Type 1} → statement M
+regime-of-spec =
+    tie.close
+    (tie.spec
+    (λ c κs. search needs)
+    (λ c κs. search needs)
+    (λ c κs. search needs)
+    (λ c κs. search needs)
+    (λ c κs. search needs)
+    (λ c κs. search needs)
+    (λ c κs. search needs)
+    (λ c κs. search needs)
+    (λ c κs. search needs)
+    returns)

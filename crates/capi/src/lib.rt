@@ -1,0 +1,208 @@
+// The C interface: structs of numbers by value, the memory as a pointer and a length.
+ghost use mathlib.Core.Path.{_≡_};
+ghost use Rattle.vmsa.specs.Answers.{view};
+ghost use Rattle.walk.specs.Walk.{walk as walkOf};
+ghost use Rattle.capi.specs.Words.{flagByte, kindOf, regimeOf, accessOf, wordsOf};
+use vmsa::Access;
+use vmsa::AccessKind;
+use vmsa::Answer;
+use vmsa::Fault;
+use vmsa::PhysAddr;
+use vmsa::Pool;
+use vmsa::Range;
+use vmsa::Refusal;
+use vmsa::Regime;
+use vmsa::Success;
+use vmsa::VirtAddr;
+
+// A regime. A flag is true where its byte is not 0; attributes is laid out as MAIR_EL1.
+#[repr(C)]
+pub struct RegimeWords {
+    pub start: usize,
+    pub length: usize,
+    pub address: u64,
+    pub root0: u64,
+    pub root1: u64,
+    pub attributes: u64,
+    pub tsz0: u8,
+    pub tsz1: u8,
+    pub disabled0: u8,
+    pub disabled1: u8,
+    pub output: u8,
+    pub ha: u8,
+    pub hd: u8,
+    pub wxn: u8,
+}
+
+// An access. kind: 0 read, 1 write, 2 update, 3 fetch, 4 probe-read, 5 and above probe-write.
+#[repr(C)]
+pub struct AccessWords {
+    pub address: u64,
+    pub size: u64,
+    pub el0: u8,
+    pub kind: u8,
+}
+
+// An answer. tag: 0 success, 1 fault, 2 refused; what an answer does not hold is 0.
+#[repr(C)]
+pub struct AnswerWords {
+    pub output: u64,
+    pub tag: u8,
+    pub refusal: u8,
+    pub code: u16,
+    pub level: u8,
+    pub attribute: u8,
+    pub shareability: u8,
+    pub nonglobal: u8,
+    pub accessed: u8,
+    pub dirtied: u8,
+    pub cacheable: u8,
+    pub reads: u8,
+}
+
+fn kind_of(n: u8) -> AccessKind
+    ensures { λ k. ⌜ k ≡ kindOf n ⌝ }
+{
+    if n == 0 {
+        return AccessKind::Read;
+    }
+    if n == 1 {
+        return AccessKind::Write;
+    }
+    if n == 2 {
+        return AccessKind::Update;
+    }
+    if n == 3 {
+        return AccessKind::Fetch;
+    }
+    if n == 4 {
+        return AccessKind::ProbeRead;
+    }
+    AccessKind::ProbeWrite
+}
+
+fn regime_of(w: RegimeWords) -> Regime
+    ensures { λ r. ⌜ r ≡ regimeOf w ⌝ }
+{
+    let pool = Pool {
+        start: w.start,
+        length: w.length,
+        address: PhysAddr(w.address),
+    };
+    let range0 = Range {
+        root: PhysAddr(w.root0),
+        tsz: w.tsz0,
+        disabled: w.disabled0 != 0,
+    };
+    let range1 = Range {
+        root: PhysAddr(w.root1),
+        tsz: w.tsz1,
+        disabled: w.disabled1 != 0,
+    };
+    Regime::new()
+        .with_pool(pool)
+        .with_range0(range0)
+        .with_range1(range1)
+        .with_output(w.output)
+        .with_ha(w.ha != 0)
+        .with_hd(w.hd != 0)
+        .with_wxn(w.wxn != 0)
+        .with_attributes(w.attributes)
+}
+
+fn access_of(w: AccessWords) -> Access
+    ensures { λ a. ⌜ a ≡ accessOf w ⌝ }
+{
+    let kind = kind_of(w.kind);
+    Access {
+        address: VirtAddr(w.address),
+        size: w.size,
+        el0: w.el0 != 0,
+        kind: kind,
+    }
+}
+
+fn flag_byte(b: bool) -> u8
+    ensures { λ r. ⌜ r ≡ flagByte b ⌝ }
+{
+    if b { 1 } else { 0 }
+}
+
+fn success_words(s: Success) -> AnswerWords
+    ensures { λ w. ⌜ w ≡ wordsOf (view (Answer.Success s)) ⌝ }
+{
+    AnswerWords {
+        output: s.output.0,
+        tag: 0,
+        refusal: 0,
+        code: 0,
+        level: s.level,
+        attribute: s.attribute,
+        shareability: s.shareability,
+        nonglobal: flag_byte(s.nonglobal),
+        accessed: flag_byte(s.accessed),
+        dirtied: flag_byte(s.dirtied),
+        cacheable: flag_byte(s.cacheable),
+        reads: s.reads,
+    }
+}
+
+fn fault_words(f: Fault) -> AnswerWords
+    ensures { λ w. ⌜ w ≡ wordsOf (view (Answer.Fault f)) ⌝ }
+{
+    AnswerWords {
+        output: 0,
+        tag: 1,
+        refusal: 0,
+        code: f.code(),
+        level: f.level,
+        attribute: 0,
+        shareability: 0,
+        nonglobal: 0,
+        accessed: 0,
+        dirtied: 0,
+        cacheable: flag_byte(f.cacheable),
+        reads: f.reads,
+    }
+}
+
+fn refusal_words(x: Refusal) -> AnswerWords
+    ensures { λ w. ⌜ w ≡ wordsOf (view (Answer.Refused x)) ⌝ }
+{
+    AnswerWords {
+        output: 0,
+        tag: 2,
+        refusal: x.number(),
+        code: 0,
+        level: 0,
+        attribute: 0,
+        shareability: 0,
+        nonglobal: 0,
+        accessed: 0,
+        dirtied: 0,
+        cacheable: 0,
+        reads: 0,
+    }
+}
+
+// An answer as numbers.
+pub fn words_of(answer: Answer) -> AnswerWords
+    ensures { λ w. ⌜ w ≡ wordsOf (view answer) ⌝ }
+{
+    match answer {
+        Answer::Success(s) => success_words(s),
+        Answer::Fault(f) => fault_words(f),
+        Answer::Refused(x) => refusal_words(x),
+    }
+}
+
+// The plain walk of an access in the lent memory.
+#[no_mangle]
+pub extern "C" fn vmsa_walk(memory: &mut [u8], regime: RegimeWords, access: AccessWords) -> AnswerWords
+    ensures answered { λ w. ⌜ w ≡ wordsOf (walkOf (regimeOf regime) (accessOf access) (now (memory .entry)) .result) ⌝ }
+    ensures stored { λ _. ⌜ now (memory .exit) ≡ walkOf (regimeOf regime) (accessOf access) (now (memory .entry)) .bytes ⌝ }
+{
+    let r = regime_of(regime);
+    let a = access_of(access);
+    words_of(walk::walk(memory, r, a))
+}
