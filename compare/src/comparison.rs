@@ -111,11 +111,10 @@ impl Runner for Comparison {
         if after != &self.expected[..] {
             why.push("the memories differ".to_string());
         }
-        let margins = [
-            &self.arena[start - MARGIN..start],
-            &self.arena[end..end + MARGIN],
-        ];
-        if margins.concat().iter().any(|&byte| byte != MARGIN_BYTE) {
+        let mut margins = self.arena[start - MARGIN..start]
+            .iter()
+            .chain(&self.arena[end..end + MARGIN]);
+        if margins.any(|&byte| byte != MARGIN_BYTE) {
             why.push("bytes beside the memory were written".to_string());
         }
         let leaf_offset = walk.leaf.map(|(_, offset)| offset);

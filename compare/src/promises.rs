@@ -74,7 +74,7 @@ pub fn check(
         )?,
     }
 
-    // "A refusal carries its number alone."
+    // Beside the tag a refusal has one number, and all else is 0.
     if answer.tag == REFUSED {
         let alone = CAnswer {
             tag: REFUSED,

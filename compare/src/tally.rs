@@ -222,7 +222,7 @@ pub fn possible() -> BTreeSet<Feature> {
         }
         for el0 in [false, true] {
             all.insert(F::Asked(End::Success, kind, el0));
-            // EL1 reads always.
+            // No read from EL1 is ever denied.
             if el0 || !matches!(kind, Kind::Read | Kind::ProbeRead) {
                 all.insert(F::Asked(End::Fault(FaultKind::Permission), kind, el0));
             }

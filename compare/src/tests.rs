@@ -239,6 +239,8 @@ impl Runner for Survey {
         let before = memory.clone();
         let walk = walk(memory, case.regime, case.access);
         let answer = plain_answer(&walk.answer);
+        // That family crosses leaf bits, so each of its walks must see them.
+        assert!(case.family != "rights" || walk.leaf.is_some());
         promises::check(
             case.regime,
             case.access,

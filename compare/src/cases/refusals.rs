@@ -45,7 +45,7 @@ pub fn run(maker: &mut Maker) {
     memory_and_pool(&mut changes);
     pool_address(&mut changes);
     sizes_and_code(&mut changes);
-    roots(&mut changes);
+    roots_and_attributes(&mut changes);
     access_size(&mut changes);
     page_crossing(&mut changes);
 
@@ -293,8 +293,8 @@ fn sizes_and_code(changes: &mut Changes) {
     }
 }
 
-/// Row 4, for both ranges, disabled or not.
-fn roots(changes: &mut Changes) {
+/// Row 4, for both ranges, disabled or not; and row 5.
+fn roots_and_attributes(changes: &mut Changes) {
     for range in 0..2 {
         for root in [
             1,
@@ -327,7 +327,7 @@ fn roots(changes: &mut Changes) {
             });
         }
     }
-    // Row 5, some bytes; all of them come further down.
+    // Some bytes; `every_attribute_byte` has them all.
     for byte in [0x01, 0x02, 0x05, 0x0F, 0x10, 0x40, 0x80, 0xF0] {
         changes.past(5, move |question, random| {
             question.scene.regime.attributes[random.below(8) as usize] = byte;

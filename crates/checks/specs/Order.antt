@@ -4,12 +4,13 @@ use mathlib.Core.Bool.{Bool}
 use mathlib.Core.List.{List, [], _∷_, _++_}
 use Rattle.descriptor.specs.Bits.{pick}
 use Rattle.vmsa.specs.declared.Regime.{Regime}
+use Rattle.vmsa.specs.declared.Pool.{Pool}
 use Rattle.vmsa.specs.declared.Access.{Access}
 use Rattle.vmsa.specs.declared.Refusal.{Refusal}
-use Rattle.vmsa.specs.declared.Refusal.the-variants.{MemoryPool, PoolAddress, Sizes, Root, Attributes, AccessSize, PageCrossing}
+use Rattle.vmsa.specs.declared.Refusal.the-variants.{MemoryPool, PoolAddress, Sizes, Root, Attributes, AccessSize, PageCrossing, StoreAddress}
 use Rattle.checks.specs.declared.Checked.{Checked}
 use Rattle.checks.specs.declared.Checked.the-variants.{Accepted, Refused}
-use Rattle.checks.specs.Tests.{memoryPoolBad, poolAddressBad, sizesBad, rootsBad, attributesBad, accessSizeBad, crossing}
+use Rattle.checks.specs.Tests.{memoryPoolBad, poolAddressBad, sizesBad, rootsBad, attributesBad, accessSizeBad, crossing, storeAddressBad}
 
 -- the refusal of the first test that applies, or else what the rest says
 abbrev pub firstBefore : List (Bool × Refusal) → Checked → Checked
@@ -19,19 +20,26 @@ firstBefore (row ∷ rows) rest = pick (row .0) (Refused (row .1)) (firstBefore 
 abbrev pub firstOf : List (Bool × Refusal) → Checked
 firstOf rows = firstBefore rows Accepted
 
+-- the memory and the pool: 1
+abbrev pub memoryRows : ℕ → Pool → List (Bool × Refusal)
+memoryRows n pool = (memoryPoolBad n pool, MemoryPool) ∷ []
+
+-- the other settings of a regime: 2 to 5
+abbrev pub settingRows : Regime → List (Bool × Refusal)
+settingRows r =
+    (poolAddressBad (r .pool), PoolAddress) ∷ (sizesBad r, Sizes) ∷ (rootsBad r, Root) ∷ (attributesBad (r .attributes), Attributes) ∷ []
+
 -- setting a regime over n bytes of memory: 1 to 5
 abbrev pub regimeRows : ℕ → Regime → List (Bool × Refusal)
-regimeRows n r =
-    (memoryPoolBad n (r .pool), MemoryPool)
-    ∷ (poolAddressBad (r .pool), PoolAddress)
-    ∷ (sizesBad r, Sizes)
-    ∷ (rootsBad r, Root)
-    ∷ (attributesBad (r .attributes), Attributes)
-    ∷ []
+regimeRows n r = memoryRows n (r .pool) ++ settingRows r
 
 -- an access: 6 and 7
 abbrev pub accessRows : Access → List (Bool × Refusal)
 accessRows a = (accessSizeBad a, AccessSize) ∷ (crossing a, PageCrossing) ∷ []
+
+-- a store: 8
+abbrev pub storeRows : Pool → ℕ → List (Bool × Refusal)
+storeRows pool address = (storeAddressBad pool address, StoreAddress) ∷ []
 
 -- a plain walk: 1 to 7
 abbrev pub walkRows : ℕ → Regime → Access → List (Bool × Refusal)
@@ -45,3 +53,10 @@ accessCheck a = firstOf (accessRows a)
 
 unfoldable pub walkCheck : ℕ → Regime → Access → Checked
 walkCheck n r a = firstOf (walkRows n r a)
+
+-- an access and a store in a session that has a regime: 1, 6, 7 and 1, 8
+unfoldable pub sessionAccessCheck : ℕ → Pool → Access → Checked
+sessionAccessCheck n pool a = firstOf (memoryRows n pool ++ accessRows a)
+
+unfoldable pub sessionStoreCheck : ℕ → Pool → ℕ → Checked
+sessionStoreCheck n pool address = firstOf (memoryRows n pool ++ storeRows pool address)

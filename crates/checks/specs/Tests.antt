@@ -59,3 +59,8 @@ lastByte a = (a .address .0 + (a .size - 1)) % 2 ^ 64
 
 unfoldable pub crossing : Access → Bool
 crossing a = not (eqb (pageOf pageBits (a .address .0)) (pageOf pageBits (lastByte a)))
+
+-- 8: a store's physical address is not a multiple of 8, or its 8 bytes are not all in the pool
+unfoldable pub storeAddressBad : Pool → ℕ → Bool
+storeAddressBad pool address =
+    not (eqb (address % 8) 0) || ltb address (pool .address .0) || ltb (pool .address .0 + pool .length) (address + 8)

@@ -3,8 +3,8 @@ ghost use mathlib.Core.Path.{_≡_};
 ghost use Prim.Native.Nat.{_+_, _-_};
 ghost use lib.Dec.{ltb};
 ghost use Rattle.descriptor.specs.Bits.{pick};
-ghost use Rattle.checks.specs.Tests.{memoryPoolBad, poolAddressBad, tszBad, sizesBad, rootBad, rootsBad, attributeBad, attributesBad, accessSizeBad, lastByte, crossing};
-ghost use Rattle.checks.specs.Order.{firstBefore, regimeRows, regimeCheck, accessCheck, walkCheck};
+ghost use Rattle.checks.specs.Tests.{memoryPoolBad, poolAddressBad, tszBad, sizesBad, rootBad, rootsBad, attributeBad, attributesBad, accessSizeBad, lastByte, crossing, storeAddressBad};
+ghost use Rattle.checks.specs.Order.{firstBefore, regimeRows, memoryRows, regimeCheck, accessCheck, walkCheck, sessionAccessCheck, sessionStoreCheck};
 use vmsa::Access;
 use vmsa::PhysAddr;
 use vmsa::Pool;
@@ -136,6 +136,22 @@ fn crosses(a: Access) -> bool
     first_page != last_page
 }
 
+// 8: of a store's address. Where the address is not below the pool's, both ends are counted from there.
+fn store_address_bad(pool: Pool, address: PhysAddr) -> bool
+    ensures { λ r. ⌜ r ≡ storeAddressBad pool (address .0) ⌝ }
+{
+    let at = address.0;
+    let base = pool.address.0;
+    if at < base {
+        return true;
+    }
+    let length = pool.length as u64;
+    if length < 8 {
+        return true;
+    }
+    !(at % 8 == 0) | (length - 8 < at - base)
+}
+
 // The refusal where the test applies, or else what the rest says.
 fn first(bad: bool, refusal: Refusal, rest: Checked) -> Checked
     ensures { λ r. ⌜ r ≡ pick bad (Checked.Refused refusal) rest ⌝ }
@@ -177,4 +193,26 @@ pub fn check_walk(n: usize, r: Regime, a: Access) -> Checked
     ensures { λ x. ⌜ x ≡ walkCheck n r a ⌝ }
 {
     regime_before(n, r, check_access(a))
+}
+
+// 1, and then what the rest says.
+fn memory_before(n: usize, pool: Pool, rest: Checked) -> Checked
+    ensures { λ x. ⌜ x ≡ firstBefore (memoryRows n pool) rest ⌝ }
+{
+    first(memory_pool_bad(n, pool), Refusal::MemoryPool, rest)
+}
+
+// An access in a session that has a regime, over a memory of n bytes: 1, 6 and 7.
+pub fn check_session_access(n: usize, pool: Pool, a: Access) -> Checked
+    ensures { λ x. ⌜ x ≡ sessionAccessCheck n pool a ⌝ }
+{
+    memory_before(n, pool, check_access(a))
+}
+
+// A store in a session that has a regime, over a memory of n bytes: 1 and 8.
+pub fn check_session_store(n: usize, pool: Pool, address: PhysAddr) -> Checked
+    ensures { λ x. ⌜ x ≡ sessionStoreCheck n pool (address .0) ⌝ }
+{
+    let from8 = first(store_address_bad(pool, address), Refusal::StoreAddress, Checked::Accepted);
+    memory_before(n, pool, from8)
 }

@@ -35,6 +35,10 @@ pub or-true : (a : Bool) → (a || true) ≡ true
 or-true false = refl
 or-true true = refl
 
+pub or-none : (a : Bool) → (a || false) ≡ a
+or-none false = refl
+or-none true = refl
+
 -- what holds of both values holds of the one picked
 pub pick-both : {A : Type 0} (P : A → Type 0) (b : Bool) (x y : A) → P x → P y → P (pick b x y)
 pick-both P true x y h k = h

@@ -1,6 +1,6 @@
 -- An answer in the paper's values: the number of each refusal, and the code of each fault.
 use Prim.Native.Nat.{ℕ, _+_}
-use mathlib.Core.Bool.{Bool}
+use mathlib.Core.Bool.{Bool, false}
 use Rattle.vmsa.specs.declared.Refusal.{Refusal}
 use Rattle.vmsa.specs.declared.Refusal.the-variants.{MemoryPool, PoolAddress, Sizes, Root, Attributes, AccessSize, PageCrossing, StoreAddress, NoRegime}
 use Rattle.vmsa.specs.declared.FaultKind.{FaultKind}
@@ -48,3 +48,9 @@ abbrev pub view : Answer → Result
 view (answer.Success s) = success s
 view (answer.Fault f) = fault (record { code = codeOf (f .kind) (f .level); level = f .level; cacheable = f .cacheable; reads = f .reads })
 view (answer.Refused x) = refused (numberOf x)
+
+-- whether an answer may be remembered
+abbrev pub cacheableIn : Result → Bool
+cacheableIn (success s) = s .cacheable
+cacheableIn (fault f) = f .cacheable
+cacheableIn (refused n) = false

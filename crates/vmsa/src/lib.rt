@@ -5,7 +5,7 @@ ghost use Rattle.vmsa.specs.Limits.{tszLeast, tszMost, outputMost, addre
 ghost use Rattle.vmsa.specs.Geometry.{pageSize as pageSizeOf, unaligned as unalignedAt, pageOf, levelOf, strideBits, shiftOf, span as spanOf, blockAt, firstLeft, cut as cutAt, outputLimit, Paged};
 ghost use Rattle.vmsa.specs.Kinds.{isFetch, isProbe, asksWrite, writes as writesOf};
 ghost use Rattle.vmsa.specs.Attributes.{attribute as attributeOf, device as deviceOf, normal as normalOf};
-ghost use Rattle.vmsa.specs.Answers.{numberOf, codeOf};
+ghost use Rattle.vmsa.specs.Answers.{numberOf, codeOf, view, cacheableIn};
 ghost use Rattle.vmsa.specs.Settings.{initial, withPool, withRange0, withRange1, withOutput, withHa, withHd, withWxn, withAttributes};
 
 // The limits of the pool, the memory and the regime; specs/Limits.antt has the same numbers.
@@ -302,6 +302,19 @@ impl Fault {
             FaultKind::Permission => 12 + level,
             FaultKind::ExternalAbort => 20 + level,
             FaultKind::Alignment => 33,
+        }
+    }
+}
+
+impl Answer {
+    // Whether it may be remembered.
+    pub fn cacheable(self) -> bool
+        ensures { λ r. ⌜ r ≡ cacheableIn (view self) ⌝ }
+    {
+        match self {
+            Answer::Success(s) => s.cacheable,
+            Answer::Fault(f) => f.cacheable,
+            Answer::Refused(_) => false,
         }
     }
 }

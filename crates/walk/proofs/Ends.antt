@@ -3,6 +3,7 @@ use Prim.Native.Nat.{ℕ, zero, suc, _+_, _-_, _%_, _<_, _≤_}
 use mathlib.Core.Bool.{Bool, true, false}
 use lib.Dec.{eqb}
 use mathlib.Core.List.{List, _++_, append-assoc}
+use mathlib.Core.Option.{Option, none, some}
 use mathlib.Core.Path.{_≡_, refl, sym, ap, subst, _∙_}
 use native.Mathlib.Nat.{zero-add}
 use native.Mathlib.Omega.{arith}
@@ -16,7 +17,8 @@ use Rattle.vmsa.specs.Geometry.{levelOf, pageSize, unaligned}
 use Rattle.vmsa.proofs.Geometry.{paged}
 use Rattle.vmsa.specs.declared.Regime.{Regime}
 use Rattle.vmsa.specs.declared.Access.{Access}
-use Rattle.vmsa.specs.Answers.{view}
+use Rattle.vmsa.specs.declared.Leaf.{Leaf}
+use Rattle.vmsa.specs.Answers.{view, cacheableIn}
 use Rattle.vmsa.specs.declared.Answer.{Answer}
 use Rattle.vmsa.specs.declared.Answer.the-variants as answer
 use Rattle.checks.specs.declared.Checked.the-variants.{Accepted}
@@ -32,7 +34,7 @@ use Rattle.lookup.proofs.Decoding.{aligned8}
 use Rattle.lookup.proofs.Reach.{Good, Reached, locate-good, InPool, in-pool}
 use Rattle.permission.specs.declared.Verdict.{Verdict}
 use Rattle.permission.specs.Decision.{decision, seen}
-use Rattle.walk.specs.Walk.{Outcome, traced, outcome, settled, walkPool, walk}
+use Rattle.walk.specs.Walk.{Outcome, traced, outcome, settled, walkPool, keptOf, keptPool, walk}
 
 clash : {A : Type 0} → _≡_ {A = ℕ} 0 1 → A
 clash z = absurd (let y : _≡_ {A = ℕ} 0 1 = z in omega arith)
@@ -103,6 +105,18 @@ module _ (r : Regime) (a : Access) (pool : List ℕ) (l : Located) (q : l ≡ sh
   pub stored-outcome : l .ending ≡ ending.Leaf → (v : Verdict) → seen v ≡ decision r a (l .leaf) (l .reads) → v .update ≡ true
       → (after : List ℕ) → after ≡ put pool (l .address .0 - r .pool .address .0) (v .value) → outcome (v .answer) after ≡ walkPool r a pool
   stored-outcome h v e u after s = sym (opened h ∙ rw (← e, u, s))
+
+  pub fault-kept : (kind : FaultKind) → l .ending ≡ ending.Fault kind → none ≡ keptPool r a pool
+  unfolding keptPool
+  fault-kept kind h = let f = at-fault (traced r pool (a .address .0)) l kind q h in rw (f .reads, f .end)
+
+  pub leaf-kept : l .ending ≡ ending.Leaf → (v : Verdict) → seen v ≡ decision r a (l .leaf) (l .reads)
+      → pick (cacheableIn (view (v .answer))) (some (record { value = v .value; left = l .leaf .left })) none ≡ keptPool r a pool
+  unfolding keptPool
+  leaf-kept h v e =
+      let f = at-leaf (traced r pool (a .address .0)) l q h in
+      let d : keptOf (l .leaf) (seen v) ≡ keptOf (l .leaf) (decision r a (l .leaf) (l .reads)) = ap (keptOf (l .leaf)) e in
+      rw (f .reads, f .end) d
 
   pub leaf-found : l .ending ≡ ending.Leaf → Sized r → rangeOf r (a .address .0) .root .0 % 8 ≡ 0 → Found r pool (a .address .0) (l .address .0) (l .leaf .value) (l .leaf .left)
   leaf-found h z e = found r pool (a .address .0) (l .address .0) (l .leaf .value) (l .leaf .left) z e (at-leaf (traced r pool (a .address .0)) l q h .end)

@@ -2,20 +2,24 @@
 use Prim.Native.Nat.{ℕ, _+_, _-_}
 use mathlib.Core.Bool.{Bool, false}
 use mathlib.Core.List.{List, _++_}
+use mathlib.Core.Option.{Option, none, some}
 use lib.ListN.{length, take, drop}
 use Rattle.descriptor.specs.Bytes.{put}
 use Rattle.descriptor.specs.Bits.{pick}
-use Rattle.vmsa.specs.Answers.{Result, fault as faulted, refused, codeOf, numberOf, view}
+use Rattle.vmsa.specs.Answers.{Result, fault as faulted, refused, codeOf, numberOf, view, cacheableIn}
 use Rattle.vmsa.specs.declared.Regime.{Regime}
 use Rattle.vmsa.specs.declared.Pool.{Pool}
 use Rattle.vmsa.specs.declared.Access.{Access}
 use Rattle.vmsa.specs.declared.Answer.{Answer}
+use Rattle.vmsa.specs.declared.Leaf.{Leaf}
 use Rattle.checks.specs.declared.Checked.{Checked}
 use Rattle.checks.specs.declared.Checked.the-variants.{Accepted, Refused}
 use Rattle.checks.specs.Order.{walkCheck}
 use Rattle.lookup.specs.Trace.{End, fault, leaf, Trace}
 use Rattle.lookup.specs.Steps.{fetched, locate}
 use Rattle.permission.specs.Decision.{Decision, decision}
+use Rattle.walk.specs.declared.Kept.{Kept}
+use Rattle.walk.specs.declared.Kept.the-variants as kept
 
 -- an answer in the paper's values, and the bytes afterwards
 pub record Outcome : Type 0 where
@@ -50,6 +54,22 @@ traced r pool address = locate r (fetched pool (r .pool .address .0)) address
 -- the walk over the pool's bytes; the count of reads is the length of the visited list
 unfoldable pub walkPool : Regime → Access → List ℕ → Outcome
 walkPool r a pool = concluded r a pool (length (traced r pool (a .address .0) .visited)) (traced r pool (a .address .0) .end)
+
+-- the leaf that may be remembered: as the walk left it, updates included (01, "The session")
+abbrev pub keptOf : Leaf → Decision → Option Leaf
+keptOf l d = pick (cacheableIn (d .result)) (some (record { value = d .value; left = l .left })) none
+
+abbrev pub keptAt : Regime → Access → ℕ → End → Option Leaf
+keptAt r a reads (fault kind level) = none
+keptAt r a reads (leaf at v left) = keptOf (record { value = v; left = left }) (decision r a (record { value = v; left = left }) reads)
+
+unfoldable pub keptPool : Regime → Access → List ℕ → Option Leaf
+keptPool r a pool = keptAt r a (length (traced r pool (a .address .0) .visited)) (traced r pool (a .address .0) .end)
+
+-- what the code keeps, in these values
+abbrev pub keptLeaf : Kept → Option Leaf
+keptLeaf (kept.Leaf l) = some l
+keptLeaf kept.Nothing = none
 
 -- a refusal carries its number alone and changes nothing
 abbrev pub checked : Regime → Access → List ℕ → Checked → Outcome

@@ -1,9 +1,9 @@
 use borrow.Author.Needs.{needs}
+use Prim.Native.Nat.{_+_, _-_}
 use mathlib.Core.Path.{_≡_, sym, _∙_}
 use native.Mathlib.Nat.{add-sub-cancel-left}
 use native.Mathlib.Omega.{arith}
 use lib.ListN.{length}
-use Prim.Native.Nat.{_+_, _-_}
 use Rattle.checks.specs.Order.{walkCheck}
 use Rattle.checks.specs.declared.Checked.the-variants.{Accepted}
 use Rattle.walk.specs.Walk.{walk}
@@ -17,14 +17,14 @@ add-end c =
     let k = ready (length (a .memory .now)) (a .r) (a .a) (sym (c .before .before .before .check-walk .ensures) ∙ c .before .enum-told .given .1) in
     omega (arith, k .fits)
 
-part-walk-pool-end : tie.Need-part-walk-pool-end
-part-walk-pool-end c =
+part-walk-leaf-end : tie.Need-part-walk-leaf-end
+part-walk-leaf-end c =
     let a = c .before .before .before .before .before .args in
     let k = ready (length (a .memory .now)) (a .r) (a .a) (sym (c .before .before .before .check-walk .ensures) ∙ c .before .enum-told .given .1) in
     omega (arith, k .fits)
 
-walk-pool-requires : tie.Need-walk-pool-requires
-walk-pool-requires c κs =
+walk-leaf-requires : tie.Need-walk-leaf-requires
+walk-leaf-requires c κs =
     let a = c .before .before .before .before .before .before .args in
     let k = ready (length (a .memory .now)) (a .r) (a .a) (sym (c .before .before .before .before .check-walk .ensures) ∙ c .before .before .enum-told .given .1) in
     (k .sized, k .root, k .size)
@@ -39,7 +39,7 @@ returns-2 c =
     let s = a .r .pool .start in
     let n = a .r .pool .length in
     let z : walkCheck (length (a .memory .now)) (a .r) (a .a) ≡ Accepted = sym (c .before .before .before .before .before .before .before .check-walk .ensures) ∙ c .before .before .before .before .before .enum-told .given .1 in
-    memory-outcome (a .r) (a .a) (a .memory .now) z (c .before .before .walk-pool .result) (c .before .before .walk-pool .last .0) (s + n - s) (add-sub-cancel-left s n) (c .before .before .walk-pool .ensures)
+    memory-outcome (a .r) (a .a) (a .memory .now) z (c .before .before .walk-leaf .result .answer) (c .before .before .walk-leaf .last .0) (s + n - s) (add-sub-cancel-left s n) (c .before .before .walk-leaf .ensures .0)
 
 pub walk-spec : {M : Type 1} → statement M
 walk-spec =
@@ -51,8 +51,8 @@ walk-spec =
     add-end
     (λ c. search needs)
     (λ c. search needs)
-    part-walk-pool-end
-    walk-pool-requires
+    part-walk-leaf-end
+    walk-leaf-requires
     returns
     (λ c. search needs)
     returns-2)
