@@ -1,10 +1,11 @@
 //! The library's C face: its structs, and a safe way to call it.
 //!
-//! The function itself is declared in `main.rs`, so that this module can be
-//! built and tested without the library.
+//! The functions themselves are declared in `main.rs`, so that this module
+//! can be built and tested without the library.
 
 use crate::random::Random;
 use crate::reference::{Access, Answer, Kind, Regime};
+use crate::session::{Call, PLACES};
 
 #[repr(C)]
 #[derive(Clone, Copy, Debug)]
@@ -187,5 +188,176 @@ impl Library {
         // SAFETY: pointer and length are those of one slice that is ours
         // alone for the time of the call; the rest is promised to `new`.
         unsafe { (self.walk)(memory.as_mut_ptr(), memory.len(), regime, access) }
+    }
+}
+
+// -------------------------------------------------------------- the session
+
+/// What a session replies to a call, in the library's form.
+#[derive(Clone, Copy, Debug, PartialEq, Eq)]
+pub enum Reply {
+    /// To set regime and store: 0 accepted, else the refusal.
+    Changed(u8),
+    /// To an access.
+    Answered(CAnswer),
+    /// To drop all.
+    Dropped,
+}
+
+/// A session that can be tried: the library's, or in the tests another one.
+pub trait Subject: Clone {
+    fn set_regime(&mut self, memory: &mut [u8], regime: &Regime, spelling: Spelling) -> u8;
+    fn access(&mut self, memory: &mut [u8], access: &Access, spelling: Spelling) -> CAnswer;
+    fn store(&mut self, memory: &mut [u8], address: u64, value: u64) -> u8;
+    fn invalidate_all(&mut self);
+
+    fn call(&mut self, memory: &mut [u8], call: &Call, spelling: Spelling) -> Reply {
+        match call {
+            Call::SetRegime(regime) => Reply::Changed(self.set_regime(memory, regime, spelling)),
+            Call::Access(access) => Reply::Answered(self.access(memory, access, spelling)),
+            Call::Store { address, value } => Reply::Changed(self.store(memory, *address, *value)),
+            Call::DropAll => {
+                self.invalidate_all();
+                Reply::Dropped
+            }
+        }
+    }
+}
+
+/// The parts of the library's session. They are here for their layout alone:
+/// a session is handed on as it came, and nothing looks into it.
+mod layout {
+    #![allow(dead_code)]
+    use super::PLACES;
+
+    #[repr(C)]
+    #[derive(Clone, Copy)]
+    struct CPool {
+        start: usize,
+        length: usize,
+        address: u64,
+    }
+
+    #[repr(C)]
+    #[derive(Clone, Copy)]
+    struct CRange {
+        root: u64,
+        tsz: u8,
+        disabled: u8,
+    }
+
+    #[repr(C)]
+    #[derive(Clone, Copy)]
+    struct CHeldRegime {
+        pool: CPool,
+        range0: CRange,
+        range1: CRange,
+        output: u8,
+        ha: u8,
+        hd: u8,
+        wxn: u8,
+        attributes: u64,
+    }
+
+    #[repr(C)]
+    #[derive(Clone, Copy)]
+    struct CLeaf {
+        value: u64,
+        left: u8,
+    }
+
+    #[repr(C)]
+    #[derive(Clone, Copy)]
+    struct CEntry {
+        held: u8,
+        page: u64,
+        leaf: CLeaf,
+    }
+
+    #[repr(C)]
+    #[derive(Clone, Copy)]
+    pub struct CSession {
+        set: u8,
+        regime: CHeldRegime,
+        entries: [CEntry; PLACES],
+    }
+}
+
+pub use layout::CSession;
+
+#[repr(C)]
+pub struct CChanged {
+    session: CSession,
+    refusal: u8,
+}
+
+#[repr(C)]
+pub struct CAccessed {
+    session: CSession,
+    answer: CAnswer,
+}
+
+/// The library's functions on a session.
+#[derive(Clone, Copy)]
+pub struct SessionFunctions {
+    pub empty: unsafe extern "C" fn() -> CSession,
+    pub set_regime: unsafe extern "C" fn(CSession, *const u8, usize, CRegime) -> CChanged,
+    pub access: unsafe extern "C" fn(CSession, *mut u8, usize, CAccess) -> CAccessed,
+    pub store: unsafe extern "C" fn(CSession, *mut u8, usize, u64, u64) -> CChanged,
+    pub invalidate_all: unsafe extern "C" fn(CSession) -> CSession,
+}
+
+/// A session of the library under test.
+#[derive(Clone, Copy)]
+pub struct LibrarySession {
+    functions: SessionFunctions,
+    session: CSession,
+}
+
+impl LibrarySession {
+    /// A fresh session.
+    ///
+    /// # Safety
+    ///
+    /// The functions must touch no byte but the `length` bytes they are lent,
+    /// must write none of those lent as `*const`, and must be fit to be
+    /// called with any numbers and with any session that one of them gave.
+    pub unsafe fn fresh(functions: SessionFunctions) -> Self {
+        LibrarySession {
+            functions,
+            session: (functions.empty)(),
+        }
+    }
+}
+
+// SAFETY of the calls below: pointer and length are those of one slice that
+// is ours alone for the time of the call; the rest is promised to `fresh`.
+impl Subject for LibrarySession {
+    fn set_regime(&mut self, memory: &mut [u8], regime: &Regime, spelling: Spelling) -> u8 {
+        let (start, length) = (memory.as_mut_ptr().cast_const(), memory.len());
+        let regime = spelling.regime(regime);
+        let changed = unsafe { (self.functions.set_regime)(self.session, start, length, regime) };
+        self.session = changed.session;
+        changed.refusal
+    }
+
+    fn access(&mut self, memory: &mut [u8], access: &Access, spelling: Spelling) -> CAnswer {
+        let (start, length) = (memory.as_mut_ptr(), memory.len());
+        let access = spelling.access(access);
+        let accessed = unsafe { (self.functions.access)(self.session, start, length, access) };
+        self.session = accessed.session;
+        accessed.answer
+    }
+
+    fn store(&mut self, memory: &mut [u8], address: u64, value: u64) -> u8 {
+        let (start, length) = (memory.as_mut_ptr(), memory.len());
+        let changed =
+            unsafe { (self.functions.store)(self.session, start, length, address, value) };
+        self.session = changed.session;
+        changed.refusal
+    }
+
+    fn invalidate_all(&mut self) {
+        self.session = unsafe { (self.functions.invalidate_all)(self.session) };
     }
 }

@@ -1,12 +1,15 @@
 //! Everything the comparison needs but the library itself, so that the tests
-//! run without it. A session of remembered leaves gets a module of its own,
-//! on top of `reference::refusal_of_access`, `find_leaf` and `settle`.
+//! run without it.
 
 pub mod boundary;
 pub mod cases;
+pub mod counts;
 pub mod promises;
 pub mod random;
 pub mod reference;
+pub mod rule3;
+pub mod scripts;
+pub mod session;
 pub mod tally;
 
 #[cfg(test)]

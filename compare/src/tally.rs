@@ -3,6 +3,7 @@
 
 use crate::boundary::{CAnswer, FAULT, REFUSED, SUCCESS};
 use crate::cases::Case;
+use crate::counts::{report_families, Countable, Counts};
 use crate::reference::{
     bit, first_level, is_device, leaf_address, offset_in_memory, output_limit, read_descriptor,
     Access, Answer, FaultKind, Kind, Leaf, Regime, Walk, ADDRESS_FIELD, GRANULE, MEMORY_LIMIT,
@@ -90,7 +91,7 @@ pub enum Feature {
 
 use Feature as F;
 
-impl Feature {
+impl Countable for Feature {
     fn heading(&self) -> &'static str {
         match self {
             F::Tag(_) => "answers",
@@ -114,6 +115,10 @@ impl Feature {
             F::Place(_) => "places",
         }
     }
+
+    fn possible() -> BTreeSet<Self> {
+        possible()
+    }
 }
 
 impl fmt::Display for End {
@@ -125,7 +130,7 @@ impl fmt::Display for End {
     }
 }
 
-fn level_name(el0: bool) -> &'static str {
+pub fn level_name(el0: bool) -> &'static str {
     if el0 {
         "EL0"
     } else {
@@ -177,7 +182,7 @@ impl fmt::Display for Feature {
 }
 
 /// Everything that 01 lets occur.
-pub fn possible() -> BTreeSet<Feature> {
+fn possible() -> BTreeSet<Feature> {
     let mut all = BTreeSet::new();
     all.extend([SUCCESS, FAULT, REFUSED].map(F::Tag));
     all.extend((1..=7).map(F::Refusal));
@@ -298,13 +303,13 @@ pub fn possible() -> BTreeSet<Feature> {
 
 #[derive(Default)]
 pub struct Tally {
-    met: BTreeMap<Feature, u64>,
+    met: Counts<Feature>,
     families: BTreeMap<&'static str, u64>,
 }
 
 impl Tally {
     fn meet(&mut self, feature: Feature) {
-        *self.met.entry(feature).or_default() += 1;
+        self.met.meet(feature);
     }
 
     /// Counts one case: the library's answer, and the way the reference
@@ -452,51 +457,18 @@ impl Tally {
         }
     }
 
-    /// All counts, a line for each heading; then what is missing and what
-    /// should not be there. True if there is neither.
+    /// All counts. True if nothing is missing and nothing strange.
     pub fn report(&self) -> bool {
-        let families: Vec<String> = self
-            .families
-            .iter()
-            .map(|(name, count)| format!("{name} {count}"))
-            .collect();
-        println!("families: {}", families.join(", "));
-        let possible = possible();
-        let mut heading = "";
-        for feature in &possible {
-            let count = self.met.get(feature).copied().unwrap_or(0);
-            if feature.heading() == heading {
-                print!(", ");
-            } else {
-                if !heading.is_empty() {
-                    println!();
-                }
-                heading = feature.heading();
-                print!("{heading}: ");
-            }
-            print!("{feature} = {count}");
-        }
-        println!();
-        let missing = self.missing();
-        for feature in &missing {
-            println!("not met: {}: {feature}", feature.heading());
-        }
-        let strangers = self.strangers();
-        for feature in &strangers {
-            println!("cannot occur: {}: {feature}", feature.heading());
-        }
-        missing.is_empty() && strangers.is_empty()
+        report_families(&self.families);
+        self.met.report()
     }
 
     pub fn missing(&self) -> Vec<Feature> {
-        let met = |feature: &Feature| self.met.contains_key(feature);
-        possible().into_iter().filter(|f| !met(f)).collect()
+        self.met.missing()
     }
 
     pub fn strangers(&self) -> Vec<Feature> {
-        let possible = possible();
-        let strange = |feature: &&Feature| !possible.contains(feature);
-        self.met.keys().filter(strange).copied().collect()
+        self.met.strangers()
     }
 }
 

@@ -67,6 +67,11 @@ fn draw_size(random: &mut Random, kind: Kind) -> u64 {
 /// An access of any kind somewhere in the page of `address`, never refused.
 pub fn draw_access(random: &mut Random, address: u64) -> Access {
     let kind = random.pick(&Kind::ALL);
+    draw_access_of(random, address, kind)
+}
+
+/// The same, of one kind.
+pub fn draw_access_of(random: &mut Random, address: u64, kind: Kind) -> Access {
     let size = draw_size(random, kind);
     let room = GRANULE - size;
     let offset = match random.below(5) {

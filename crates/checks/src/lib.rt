@@ -58,7 +58,7 @@ fn tsz_bad(t: u8) -> bool
 }
 
 // 3: of the sizes.
-fn sizes_bad(r: Regime) -> bool
+pub fn sizes_bad(r: Regime) -> bool
     ensures { λ b. ⌜ b ≡ sizesBad r ⌝ }
 {
     tsz_bad(r.range0.tsz) | tsz_bad(r.range1.tsz) | (vmsa::OUTPUT_MOST < r.output)
@@ -71,7 +71,7 @@ fn root_bad(root: PhysAddr) -> bool
 }
 
 // 4: of the roots.
-fn roots_bad(r: Regime) -> bool
+pub fn roots_bad(r: Regime) -> bool
     ensures { λ b. ⌜ b ≡ rootsBad r ⌝ }
 {
     root_bad(r.range0.root) | root_bad(r.range1.root)

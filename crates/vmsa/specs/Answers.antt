@@ -54,3 +54,9 @@ abbrev pub cacheableIn : Result → Bool
 cacheableIn (success s) = s .cacheable
 cacheableIn (fault f) = f .cacheable
 cacheableIn (refused n) = false
+
+-- whether it says that AP[2] was cleared
+abbrev pub dirtiedIn : Result → Bool
+dirtiedIn (success s) = s .dirtied
+dirtiedIn (fault f) = false
+dirtiedIn (refused n) = false

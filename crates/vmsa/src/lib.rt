@@ -5,7 +5,7 @@ ghost use Rattle.vmsa.specs.Limits.{tszLeast, tszMost, outputMost, addre
 ghost use Rattle.vmsa.specs.Geometry.{pageSize as pageSizeOf, unaligned as unalignedAt, pageOf, levelOf, strideBits, shiftOf, span as spanOf, blockAt, firstLeft, cut as cutAt, outputLimit, Paged};
 ghost use Rattle.vmsa.specs.Kinds.{isFetch, isProbe, asksWrite, writes as writesOf};
 ghost use Rattle.vmsa.specs.Attributes.{attribute as attributeOf, device as deviceOf, normal as normalOf};
-ghost use Rattle.vmsa.specs.Answers.{numberOf, codeOf, view, cacheableIn};
+ghost use Rattle.vmsa.specs.Answers.{numberOf, codeOf, view, cacheableIn, dirtiedIn};
 ghost use Rattle.vmsa.specs.Settings.{initial, withPool, withRange0, withRange1, withOutput, withHa, withHd, withWxn, withAttributes};
 
 // The limits of the pool, the memory and the regime; specs/Limits.antt has the same numbers.
@@ -314,6 +314,17 @@ impl Answer {
         match self {
             Answer::Success(s) => s.cacheable,
             Answer::Fault(f) => f.cacheable,
+            Answer::Refused(_) => false,
+        }
+    }
+
+    // Whether this access made the page dirty.
+    pub fn dirtied(self) -> bool
+        ensures { λ r. ⌜ r ≡ dirtiedIn (view self) ⌝ }
+    {
+        match self {
+            Answer::Success(s) => s.dirtied,
+            Answer::Fault(_) => false,
             Answer::Refused(_) => false,
         }
     }

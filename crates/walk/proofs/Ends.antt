@@ -127,7 +127,7 @@ aligned-zero : (x : ℕ) → unaligned pageBits x ≡ false → x % pageSize pag
 unfolding unaligned
 aligned-zero x e = eqb-true (x % pageSize pageBits) 0 (not-false (eqb (x % pageSize pageBits) 0) e)
 
-root-aligned : (r : Regime) (address : ℕ) → Rooted (r .range0 .root .0) → Rooted (r .range1 .root .0) → rangeOf r address .root .0 % 8 ≡ 0
+pub root-aligned : (r : Regime) (address : ℕ) → Rooted (r .range0 .root .0) → Rooted (r .range1 .root .0) → rangeOf r address .root .0 % 8 ≡ 0
 unfolding rangeOf
 root-aligned r address h k = by (upper address)
   where

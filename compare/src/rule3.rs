@@ -1,0 +1,326 @@
+//! Rule 3 (00, made exact in 01, "The session") as a claim about a list of
+//! calls and replies. Nothing here looks into a session: what it remembers
+//! is read off its replies.
+
+use crate::boundary::{plain_answer, CAnswer, Reply, REFUSED};
+use crate::reference::{
+    offset_in_memory, refusal_of_regime, row_1, walk, write_descriptor, Access, Regime,
+};
+use crate::session::{page_of, place_of, row_8, Call};
+
+/// A call, its reply, and the memory before and after it.
+#[derive(Clone, Copy, Debug)]
+pub struct Event {
+    pub call: Call,
+    pub reply: Reply,
+    /// How many bytes of the memory were lent, from its first on.
+    pub lent: usize,
+    found: usize,
+    left: usize,
+}
+
+impl Event {
+    pub fn is_accepted(&self) -> bool {
+        match self.reply {
+            Reply::Changed(number) => number == 0,
+            Reply::Answered(answer) => answer.tag != REFUSED,
+            Reply::Dropped => true,
+        }
+    }
+
+    pub fn is_accepted_store(&self) -> bool {
+        matches!(self.call, Call::Store { .. }) && self.is_accepted()
+    }
+
+    /// An accepted set regime or a drop all.
+    pub fn is_emptying(&self) -> bool {
+        match self.call {
+            Call::SetRegime(_) => self.is_accepted(),
+            Call::DropAll => true,
+            _ => false,
+        }
+    }
+
+    /// The page and the count of an access that may be remembered.
+    pub fn rememberable(&self) -> Option<(u64, u8)> {
+        match (self.call, self.reply) {
+            (Call::Access(access), Reply::Answered(answer)) if answer.cacheable != 0 => {
+                Some((page_of(access.address), answer.reads))
+            }
+            _ => None,
+        }
+    }
+}
+
+/// What the last sentence of rule 3 says of a new access.
+#[derive(Clone, Copy, Debug, PartialEq, Eq, PartialOrd, Ord)]
+pub enum Class {
+    /// Refused with 9.
+    NoRegime,
+    /// The page was the last: one answer, whatever the memory holds.
+    OneAnswer,
+    /// The page was the last, but that answer would make a dirty mark.
+    DirtyMark,
+    /// The last rememberable access at the place was of another page.
+    OtherPage,
+    /// There was none since the last emptying.
+    Nothing,
+}
+
+/// What `check` had to say of an access.
+#[derive(Clone, Copy, Debug, Default)]
+pub struct Checked {
+    /// The first half spoke of it.
+    pub first_half: bool,
+    pub class: Option<Class>,
+}
+
+/// The list so far.
+#[derive(Default)]
+pub struct History {
+    events: Vec<Event>,
+    /// The memory at first, and after each change of it.
+    memories: Vec<Vec<u8>>,
+}
+
+impl History {
+    pub fn new(memory: &[u8]) -> Self {
+        History {
+            events: Vec::new(),
+            memories: vec![memory.to_vec()],
+        }
+    }
+
+    pub fn events(&self) -> &[Event] {
+        &self.events
+    }
+
+    /// Puts a call on the list, with the memory as it was left.
+    pub fn record(&mut self, call: Call, reply: Reply, lent: usize, memory: &[u8]) {
+        let found = self.memories.len() - 1;
+        if self.memories[found] != memory {
+            self.memories.push(memory.to_vec());
+        }
+        self.events.push(Event {
+            call,
+            reply,
+            lent,
+            found,
+            left: self.memories.len() - 1,
+        });
+    }
+
+    /// The memory as an event found it.
+    pub fn found(&self, event: &Event) -> &[u8] {
+        &self.memories[event.found]
+    }
+
+    /// The memory as an event left it.
+    pub fn left(&self, event: &Event) -> &[u8] {
+        &self.memories[event.left]
+    }
+
+    /// All that came before an event, or the whole list.
+    pub fn before(&self, at: usize) -> Past<'_> {
+        Past {
+            history: self,
+            events: &self.events[..at],
+        }
+    }
+
+    pub fn whole(&self) -> Past<'_> {
+        self.before(self.events.len())
+    }
+
+    /// Rule 3 for one event, by those before it. Says all that is broken.
+    pub fn check(&self, at: usize) -> Result<Checked, Vec<String>> {
+        let event = &self.events[at];
+        let past = self.before(at);
+        let mut checked = Checked::default();
+        let mut broken = Vec::new();
+        let mut demand = |holds: bool, words: &str| {
+            if !holds {
+                broken.push(format!("rule 3: {words}"));
+            }
+        };
+
+        // What is left alone, and when there is a refusal.
+        let mut memory = self.found(event).to_vec();
+        match (event.call, event.reply) {
+            (Call::SetRegime(regime), Reply::Changed(number)) => {
+                let wanted = refusal_of_regime(event.lent, &regime).unwrap_or(0);
+                demand(number == wanted, "set regime is refused wrongly");
+            }
+            (Call::Store { address, value }, Reply::Changed(number)) => {
+                let wanted = past.refusal_of_store(event.lent, address).unwrap_or(0);
+                demand(number == wanted, "a store is refused wrongly");
+                if let (0, Some(regime)) = (number, past.regime()) {
+                    match offset_in_memory(&regime.pool, address) {
+                        Some(offset) => write_descriptor(&mut memory, offset, value),
+                        None => demand(false, "a store beside the pool is accepted"),
+                    }
+                }
+            }
+            (Call::DropAll, Reply::Dropped) => {}
+            (Call::Access(access), Reply::Answered(answer)) => {
+                if let Some((wanted, bytes)) = past.first_half(&access, &memory, event.lent) {
+                    checked.first_half = true;
+                    let without_count = CAnswer { reads: 0, ..answer };
+                    demand(
+                        without_count == wanted,
+                        "first half: not the plain walk's answer",
+                    );
+                    demand(
+                        self.left(event) == bytes,
+                        "first half: not the plain walk's bytes",
+                    );
+                }
+                match past.promise(&access, &mut memory[..event.lent]) {
+                    Ok(Some((class, wanted))) => {
+                        checked.class = Some(class);
+                        let words = format!("second half, {class:?}: another answer is promised");
+                        demand(answer == wanted, &words);
+                    }
+                    // Its bytes are not promised either.
+                    Ok(None) => memory.copy_from_slice(self.left(event)),
+                    Err(words) => demand(false, words),
+                }
+                demand(
+                    answer.tag != REFUSED || event.found == event.left,
+                    "a refused access changed the memory",
+                );
+            }
+            _ => demand(false, "the reply is one to another call"),
+        }
+        demand(self.left(event) == memory, "other bytes are promised");
+        if broken.is_empty() {
+            Ok(checked)
+        } else {
+            Err(broken)
+        }
+    }
+}
+
+/// The list up to a moment.
+#[derive(Clone, Copy)]
+pub struct Past<'a> {
+    history: &'a History,
+    events: &'a [Event],
+}
+
+impl<'a> Past<'a> {
+    /// The regime last accepted.
+    pub fn regime(&self) -> Option<Regime> {
+        self.events.iter().rev().find_map(|event| match event.call {
+            Call::SetRegime(regime) if event.is_accepted() => Some(regime),
+            _ => None,
+        })
+    }
+
+    pub fn last_emptying(&self) -> Option<usize> {
+        self.events.iter().rposition(Event::is_emptying)
+    }
+
+    /// Events since the last emptying.
+    fn since_emptying(&self) -> std::ops::Range<usize> {
+        self.last_emptying().map_or(0, |at| at + 1)..self.events.len()
+    }
+
+    /// Rememberable accesses at a page's place since the last emptying, the
+    /// last one first, each with its page and count.
+    fn rememberable_at(&self, page: u64) -> impl Iterator<Item = (usize, u64, u8)> + 'a {
+        let events = self.events;
+        self.since_emptying().rev().filter_map(move |at| {
+            let (other, reads) = events[at].rememberable()?;
+            (place_of(other) == place_of(page)).then_some((at, other, reads))
+        })
+    }
+
+    /// Whether the last rememberable access at its place was of this page.
+    pub fn remembers(&self, page: u64) -> bool {
+        let last = self.rememberable_at(page).next();
+        last.is_some_and(|(_, other, _)| other == page)
+    }
+
+    /// The last rememberable access at a page's place that read something.
+    pub fn last_walk_at(&self, page: u64) -> Option<usize> {
+        let mut walks = self.rememberable_at(page).filter(|(.., reads)| *reads > 0);
+        walks.next().map(|(at, ..)| at)
+    }
+
+    fn refusal_of_store(&self, lent: usize, address: u64) -> Option<u8> {
+        let Some(regime) = self.regime() else {
+            return Some(9);
+        };
+        if row_1(lent, &regime.pool) {
+            Some(1)
+        } else if row_8(&regime.pool, address) {
+            Some(8)
+        } else {
+            None
+        }
+    }
+
+    /// The plain walk of this moment, its count put to 0, and the bytes it
+    /// leaves; nothing where a store came after the last emptying, or
+    /// before any regime.
+    fn first_half(&self, access: &Access, memory: &[u8], lent: usize) -> Option<(CAnswer, Vec<u8>)> {
+        let regime = self.regime()?;
+        let since = &self.events[self.since_emptying()];
+        if since.iter().any(Event::is_accepted_store) {
+            return None;
+        }
+        let mut bytes = memory.to_vec();
+        let answer = plain_answer(&walk(&mut bytes[..lent], &regime, access).answer);
+        Some((CAnswer { reads: 0, ..answer }, bytes))
+    }
+
+    /// The answer that a new access must get over a memory of any bytes,
+    /// which is left as the access must leave it. Nothing is said where the
+    /// memory is not as long as that of the access which is looked back on.
+    pub fn promise(
+        &self,
+        access: &Access,
+        memory: &mut [u8],
+    ) -> Result<Option<(Class, CAnswer)>, &'static str> {
+        let Some(regime) = self.regime() else {
+            let refused = CAnswer {
+                tag: REFUSED,
+                refusal: 9,
+                ..CAnswer::default()
+            };
+            return Ok(Some((Class::NoRegime, refused)));
+        };
+        let page = page_of(access.address);
+        let mut class = match self.rememberable_at(page).next() {
+            None => Class::Nothing,
+            Some((_, other, _)) if other != page => Class::OtherPage,
+            Some(_) => Class::OneAnswer,
+        };
+        if class == Class::OneAnswer {
+            let walked = self.last_walk_at(page);
+            let earlier = walked.ok_or("second half: remembered, and never walked")?;
+            if self.events[earlier].lent != memory.len() {
+                return Ok(None);
+            }
+            let answer = self.one_answer(earlier, access)?;
+            if answer.dirtied == 0 {
+                return Ok(Some((class, answer)));
+            }
+            class = Class::DirtyMark;
+        }
+        let answer = plain_answer(&walk(memory, &regime, access).answer);
+        Ok(Some((class, answer)))
+    }
+
+    /// What the plain walk gives under the regime of an earlier access and
+    /// over the memory as that one left it, the count put to 0.
+    fn one_answer(&self, earlier: usize, access: &Access) -> Result<CAnswer, &'static str> {
+        let regime = self.history.before(earlier).regime();
+        let regime = regime.ok_or("second half: remembered before any regime")?;
+        let event = &self.events[earlier];
+        let mut memory = self.history.left(event)[..event.lent].to_vec();
+        let answer = plain_answer(&walk(&mut memory, &regime, access).answer);
+        Ok(CAnswer { reads: 0, ..answer })
+    }
+}

@@ -1,0 +1,145 @@
+//! The session of 01 ("The session"): a regime and 64 places that remember
+//! leaves, on top of the second walker.
+
+use crate::reference::{
+    offset_in_memory, read_descriptor, refusal_of_access, refusal_of_regime, row_1, settle, walk,
+    write_descriptor, Access, Answer, Leaf, Pool, Regime, Walk, GRANULE,
+};
+
+pub const PLACES: usize = 64;
+
+/// Bits 63..12 of an address.
+pub fn page_of(address: u64) -> u64 {
+    address / GRANULE
+}
+
+/// The place of a page: its number mod 64.
+pub fn place_of(page: u64) -> usize {
+    (page % PLACES as u64) as usize
+}
+
+/// One call of a session.
+#[derive(Clone, Copy, Debug, PartialEq, Eq)]
+pub enum Call {
+    SetRegime(Regime),
+    Access(Access),
+    Store { address: u64, value: u64 },
+    DropAll,
+}
+
+/// What a place holds: a page, and its leaf as the walk left it.
+#[derive(Clone, Copy, Debug, PartialEq, Eq)]
+pub struct Held {
+    pub page: u64,
+    pub leaf: Leaf,
+}
+
+#[derive(Clone, Debug, PartialEq, Eq)]
+pub struct Session {
+    pub regime: Option<Regime>,
+    pub places: [Option<Held>; PLACES],
+}
+
+/// How an access got its answer.
+#[derive(Clone, Debug)]
+pub enum Way {
+    Refused,
+    /// From the held leaf.
+    Held,
+    /// By a walk: the place was empty or held another page.
+    Walked(Walk),
+    /// By a walk, as the held leaf had a dirty mark to come.
+    WalkedAgain(Walk),
+}
+
+/// 01, row 8: a store's address.
+pub fn row_8(pool: &Pool, address: u64) -> bool {
+    address & 7 != 0 || offset_in_memory(pool, address).is_none()
+}
+
+impl Session {
+    /// No regime, every place empty.
+    pub const FRESH: Session = Session {
+        regime: None,
+        places: [None; PLACES],
+    };
+
+    /// The refusal, if there is one (1 to 5).
+    pub fn set_regime(&mut self, memory_length: usize, regime: &Regime) -> Option<u8> {
+        let refusal = refusal_of_regime(memory_length, regime);
+        if refusal.is_none() {
+            self.regime = Some(*regime);
+            self.drop_all();
+        }
+        refusal
+    }
+
+    /// Refused with 9, 1, 6 or 7; else from the place or by a walk.
+    pub fn access(&mut self, memory: &mut [u8], access: &Access) -> (Answer, Way) {
+        let regime = match self.regime_over(memory.len()) {
+            Ok(regime) => regime,
+            Err(number) => return (Answer::Refused(number), Way::Refused),
+        };
+        if let Some(number) = refusal_of_access(access) {
+            return (Answer::Refused(number), Way::Refused);
+        }
+
+        let page = page_of(access.address);
+        let place = &mut self.places[place_of(page)];
+        let held = place.filter(|held| held.page == page);
+        if let Some(held) = held {
+            let (answer, _) = settle(&regime, access, &held.leaf, 0);
+            let dirties = matches!(answer, Answer::Success(success) if success.dirtied);
+            if !dirties {
+                return (answer, Way::Held);
+            }
+        }
+
+        let walk = walk(memory, &regime, access);
+        let rememberable = match walk.answer {
+            Answer::Success(success) => success.rememberable,
+            Answer::Fault(fault) => fault.rememberable,
+            Answer::Refused(_) => false,
+        };
+        if let (true, Some((found, offset))) = (rememberable, walk.leaf) {
+            let leaf = Leaf {
+                descriptor: read_descriptor(memory, offset),
+                level: found.level,
+            };
+            *place = Some(Held { page, leaf });
+        }
+        let answer = walk.answer;
+        match held {
+            Some(_) => (answer, Way::WalkedAgain(walk)),
+            None => (answer, Way::Walked(walk)),
+        }
+    }
+
+    /// The refusal, if there is one (9, 1, 8). No place changes.
+    pub fn store(&mut self, memory: &mut [u8], address: u64, value: u64) -> Option<u8> {
+        let regime = match self.regime_over(memory.len()) {
+            Ok(regime) => regime,
+            Err(number) => return Some(number),
+        };
+        match offset_in_memory(&regime.pool, address) {
+            Some(offset) if !row_8(&regime.pool, address) => {
+                write_descriptor(memory, offset, value);
+                None
+            }
+            _ => Some(8),
+        }
+    }
+
+    pub fn drop_all(&mut self) {
+        self.places = [None; PLACES];
+    }
+
+    /// Refusals 9 and 1, which access and store share.
+    fn regime_over(&self, memory_length: usize) -> Result<Regime, u8> {
+        let regime = self.regime.ok_or(9)?;
+        if row_1(memory_length, &regime.pool) {
+            return Err(1);
+        }
+        Ok(regime)
+    }
+}

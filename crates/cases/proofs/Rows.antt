@@ -1,0 +1,62 @@
+-- The table is proved: antt computes the quick walk of every row, and one law turns that into the walk.
+use mathlib.Core.Bool.{Bool, true, _&&_}
+use mathlib.Core.Path.{_≡_, refl, _∙_}
+use mathlib.Core.List.{List, [], _∷_}
+use lib.Dec.{eqb}
+use borrow.Author.Tests.{eqb-true}
+use Rattle.descriptor.specs.Bytes.{digits, bytesOf}
+use Rattle.descriptor.specs.Bits.{setBit, clearBit}
+use Rattle.descriptor.proofs.Tests.{and-true}
+use Rattle.vmsa.specs.Geometry.{pageSize, strideBits, unaligned, pageOf, levelOf, shiftOf, span, blockAt, firstLeft, cut, outputBits, outputLimit}
+use Rattle.vmsa.specs.Attributes.{attribute, device, normal}
+use Rattle.checks.specs.Tests.{memoryPoolBad, poolAddressBad, tszBad, sizesBad, rootBad, rootsBad, attributeBad, attributesBad, accessSizeBad, lastByte, crossing}
+use Rattle.checks.specs.Order.{walkCheck}
+use Rattle.lookup.specs.Steps.{invalid, isTable, addressIn, decoded, entryAt, followed, entered, descend, upper, rangeOf, outside, contextOf, locate}
+use Rattle.permission.specs.Permission.{attributeOf, writable, clean, user, mayRead, mayWrite, mayFetch, permitted, misaligned, flagFails, alignmentFails, permissionFails}
+use Rattle.permission.specs.Decision.{flagDue, dirtyDue, updated, cacheable, outputOf, failing, passing, decision}
+use Rattle.walk.specs.Walk.{Outcome}
+use Rattle.cases.specs.Cases.{puts, Row, expected, Holds, All, rows, Worked}
+use Rattle.cases.proofs.Quick.{placed, allPlaced, valueAt, quick, walkAlong, quickWalk}
+use Rattle.cases.proofs.Sparse.{walk-quick}
+
+-- the pool starts the memory, and the descriptors lie in it
+abbrev sound : Row → Bool
+sound r = eqb (r .regime .pool .start) 0 && allPlaced (r .regime .pool .length) (r .found)
+
+abbrev computed : Row → Outcome
+computed r = quickWalk (r .regime .pool .length) (r .found) (r .regime) (r .access)
+
+allSound : List Row → Bool
+allSound [] = true
+allSound (r ∷ rs) = sound r && allSound rs
+
+outcomes : (Row → Outcome) → List Row → List Outcome
+outcomes f [] = []
+outcomes f (r ∷ rs) = f r ∷ outcomes f rs
+
+holds : (r : Row) → sound r ≡ true → computed r ≡ expected r → Holds r
+unfolding Holds
+holds r s q =
+    let t = and-true (eqb (r .regime .pool .start) 0) (allPlaced (r .regime .pool .length) (r .found)) s in
+    walk-quick (r .regime) (r .access) (r .found) (eqb-true (r .regime .pool .start) 0 (t .0)) (t .1) ∙ q
+
+each : (rs : List Row) → allSound rs ≡ true → outcomes computed rs ≡ outcomes expected rs → All rs
+unfolding All allSound outcomes
+each [] s q = tt
+each (r ∷ rs) s q =
+    let t = and-true (sound r) (allSound rs) s in
+    let e : computed r ≡ expected r = cc in
+    let es : outcomes computed rs ≡ outcomes expected rs = cc in
+    (holds r (t .0) e, each rs (t .1) es)
+
+all-sound : allSound rows ≡ true
+unfolding allSound rows allPlaced placed
+all-sound = refl
+
+all-computed : outcomes computed rows ≡ outcomes expected rows
+unfolding outcomes rows puts valueAt quick walkAlong quickWalk setBit clearBit pageSize strideBits unaligned pageOf levelOf shiftOf span blockAt firstLeft cut outputBits outputLimit attribute device normal memoryPoolBad poolAddressBad tszBad sizesBad rootBad rootsBad attributeBad attributesBad accessSizeBad lastByte crossing walkCheck invalid isTable addressIn decoded entryAt followed entered descend upper rangeOf outside contextOf locate attributeOf writable clean user mayRead mayWrite mayFetch permitted misaligned flagFails alignmentFails permissionFails flagDue dirtyDue updated cacheable outputOf failing passing decision
+all-computed = refl
+
+pub worked : Worked
+unfolding Worked bytesOf digits
+worked = (each rows all-sound all-computed, refl)

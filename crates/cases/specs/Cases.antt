@@ -1,0 +1,191 @@
+-- The worked cases P1 to P12 as one table under one claim (01, "Numbers to hold against it").
+use Prim.Native.Nat.{ℕ, _*_, _-_}
+use mathlib.Core.Bool.{Bool, true, false}
+use mathlib.Core.List.{List, [], _∷_, _++_}
+use mathlib.Core.Path.{_≡_}
+use lib.ListN.{replicate}
+use Rattle.descriptor.specs.Bytes.{bytesOf, put}
+use Rattle.vmsa.specs.Answers.{Result, success, fault, refused}
+use Rattle.vmsa.specs.Settings.{disabledRange, withPool, withRange0, withOutput, withHa, withHd, withWxn, withAttributes}
+use Rattle.vmsa.specs.declared.Regime.{Regime}
+use Rattle.vmsa.specs.declared.Pool.{Pool}
+use Rattle.vmsa.specs.declared.Range.{Range}
+use Rattle.vmsa.specs.declared.Access.{Access}
+use Rattle.vmsa.specs.declared.AccessKind.{AccessKind}
+use Rattle.vmsa.specs.declared.AccessKind.the-variants.{Read, Write, Fetch, ProbeWrite}
+use Rattle.walk.specs.Walk.{Outcome, walk}
+
+-- ---- what the cases start from
+
+-- the physical address of the pool's first byte; the root table stands there
+abbrev pub poolAddress : ℕ
+poolAddress = 0x40000000
+
+-- a pool of n bytes, from the memory's first byte on
+abbrev pub poolOf : ℕ → Pool
+poolOf n = record { start = 0; length = n; address = record { 0 = poolAddress } }
+
+-- either range
+abbrev pub range : Range
+range = record { root = record { 0 = poolAddress }; tsz = 16; disabled = false }
+
+-- eight attribute bytes, all alike
+abbrev pub eight : ℕ → ℕ
+eight attribute = 0x0101010101010101 * attribute
+
+abbrev pub base : Regime
+base = record {
+  pool = poolOf 65536;
+  range0 = range;
+  range1 = range;
+  output = 5;
+  ha = true;
+  hd = true;
+  wxn = false;
+  attributes = eight 0xFF;
+}
+
+-- an access from EL0, and the one at 0x403ABC of size 4
+abbrev pub access : ℕ → ℕ → AccessKind → Access
+access address size kind = record { address = record { 0 = address }; size = size; el0 = true; kind = kind }
+
+abbrev pub usual : AccessKind → Access
+usual kind = access 0x403ABC 4 kind
+
+-- a descriptor at a physical address, as its offset in the pool and its value
+abbrev pub stored : ℕ → ℕ → ℕ × ℕ
+stored address value = (address - poolAddress, value)
+
+abbrev pub leafAddress : ℕ
+leafAddress = 0x40003018
+
+-- the four descriptors, given the third and the leaf
+abbrev pub tablesWith : ℕ → ℕ → List (ℕ × ℕ)
+tablesWith third leaf = stored 0x40000000 0x40001003 ∷ stored 0x40001000 0x40002003 ∷ stored 0x40002010 third ∷ stored leafAddress leaf ∷ []
+
+-- the leaf, and it with the Access flag set, and with AP[2] cleared too
+abbrev pub leaf : ℕ
+leaf = 0x00080000800053C3
+
+abbrev pub accessedLeaf : ℕ
+accessedLeaf = 0x00080000800057C3
+
+abbrev pub dirtyLeaf : ℕ
+dirtyLeaf = 0x0008000080005743
+
+-- the four descriptors with another leaf, with another third one, and as they are
+abbrev pub withLeaf : ℕ → List (ℕ × ℕ)
+withLeaf v = tablesWith 0x40003003 v
+
+abbrev pub withThird : ℕ → List (ℕ × ℕ)
+withThird v = tablesWith v leaf
+
+abbrev pub tables : List (ℕ × ℕ)
+tables = withLeaf leaf
+
+-- a memory with these descriptors put at their offsets
+unfoldable pub puts : List ℕ → List (ℕ × ℕ) → List ℕ
+puts memory [] = memory
+puts memory (d ∷ ds) = puts (put memory (d .0) (d .1)) ds
+
+-- n bytes, all 0 but for these descriptors
+unfoldable pub memoryOf : ℕ → List (ℕ × ℕ) → List ℕ
+memoryOf n ds = puts (replicate n 0) ds
+
+-- ---- the claim
+
+-- an access under a regime, the descriptors found, the result, and the descriptors that it changes
+pub record Row : Type 0 where
+  pub regime : Regime
+  pub access : Access
+  pub found : List (ℕ × ℕ)
+  pub result : Result
+  pub changed : List (ℕ × ℕ)
+
+abbrev pub row : Regime → Access → List (ℕ × ℕ) → Result → List (ℕ × ℕ) → Row
+row regime access found result changed = record { regime = regime; access = access; found = found; result = result; changed = changed }
+
+-- the memory is exactly the pool
+abbrev pub memory : Row → List ℕ
+memory r = memoryOf (r .regime .pool .length) (r .found)
+
+abbrev pub expected : Row → Outcome
+expected r = record { result = r .result; bytes = puts (memory r) (r .changed) }
+
+-- the walk gives this result, and leaves every byte as it was but for the descriptors changed
+unfoldable pub Holds : Row → Type 0
+Holds r = walk (r .regime) (r .access) (memory r) ≡ expected r
+
+unfoldable pub All : List Row → Type 0
+All [] = Unit {0}
+All (r ∷ rs) = Holds r × All rs
+
+-- ---- the table
+
+-- a success at level 3 after 4 reads: its address, whether it set the Access flag, cleared AP[2], and may be remembered
+abbrev pub passed : ℕ → Bool → Bool → Bool → Result
+passed output accessed dirtied cacheable =
+    success (record {
+      output = record { 0 = output };
+      attribute = 0xFF;
+      shareability = 3;
+      nonglobal = false;
+      level = 3;
+      accessed = accessed;
+      dirtied = dirtied;
+      cacheable = cacheable;
+      reads = 4;
+    })
+
+-- a fault: its code, level, whether it may be remembered, and the count of reads
+abbrev pub failed : ℕ → ℕ → Bool → ℕ → Result
+failed code level cacheable reads = fault (record { code = code; level = level; cacheable = cacheable; reads = reads })
+
+-- the leaf becomes v
+abbrev pub leafNow : ℕ → List (ℕ × ℕ)
+leafNow v = stored leafAddress v ∷ []
+
+unfoldable pub rows : List Row
+rows =
+    -- P1
+    row base (usual Read) tables (passed 0x80005ABC true false true) (leafNow accessedLeaf)
+    -- P2
+    ∷ row base (usual Write) tables (passed 0x80005ABC true true true) (leafNow dirtyLeaf)
+    -- P3, with the size that a probe has; size 4 is refused
+    ∷ row base (access 0x403ABC 1 ProbeWrite) tables (passed 0x80005ABC false false false) []
+    ∷ row base (usual ProbeWrite) tables (refused 6) []
+    -- P4
+    ∷ row (withHd base false) (usual Write) tables (failed 15 3 false 4) []
+    -- P5, with HD on and with HD off
+    ∷ row (withHa base false) (usual Write) tables (failed 11 3 false 4) []
+    ∷ row (withHd (withHa base false) false) (usual Write) tables (failed 11 3 false 4) []
+    -- P6
+    ∷ row base (usual Read) (withThird 0x4000F003) (failed 7 3 false 4) []
+    -- P7
+    ∷ row base (usual Read) (withThird 0x40010003) (failed 23 3 false 4) []
+    -- P8, the leaf's other fields as they are
+    ∷ row (withOutput base 0) (usual Read) (withLeaf 0x00080001000003C3) (failed 3 3 false 4) []
+    -- P9
+    ∷ row base (usual Read) (withLeaf 0x00080000800053C1) (failed 7 3 false 4) []
+    -- P10
+    ∷ row (withAttributes base (eight 0x00)) (access 0x403ABD 2 Read) tables (failed 33 3 false 4) []
+    -- P11
+    ∷ row base (access 0x403FFC 4 Read) tables (passed 0x80005FFC true false true) (leafNow accessedLeaf)
+    ∷ row base (access 0x403FFD 4 Read) tables (refused 7) []
+    -- P12
+    ∷ row (withPool base (poolOf 65536)) (usual Read) tables (passed 0x80005ABC true false true) (leafNow accessedLeaf)
+    ∷ row (withPool base (poolOf 69632)) (usual Read) tables (refused 1) []
+    -- a fault of step 1 counts no reads
+    ∷ row (withRange0 base disabledRange) (usual Read) tables (failed 4 0 false 0) []
+    -- a Permission fault may be remembered where the Access flag is set
+    ∷ row (withHd base false) (usual Write) (withLeaf accessedLeaf) (failed 15 3 true 4) []
+    -- writable-clean counts as writable where WXN asks
+    ∷ row (withWxn base true) (usual Fetch) tables (failed 15 3 false 4) []
+    -- a leaf in the pool's last 8 bytes, and a descriptor just after the pool
+    ∷ row base (access 0x5FFABC 4 Write) (withThird 0x4000F003 ++ stored 0x4000FFF8 leaf ∷ []) (passed 0x80005ABC true true true) (stored 0x4000FFF8 dirtyLeaf ∷ [])
+    ∷ row base (access 0x400ABC 4 Write) (withThird 0x40010003) (failed 23 3 false 4) []
+    ∷ []
+
+-- the claim: every row holds, and P2's leaf has these bytes
+unfoldable pub Worked : Type 0
+Worked = All rows × (bytesOf dirtyLeaf ≡ 0x43 ∷ 0x57 ∷ 0x00 ∷ 0x80 ∷ 0x00 ∷ 0x00 ∷ 0x08 ∷ 0x00 ∷ [])

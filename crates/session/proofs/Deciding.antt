@@ -1,0 +1,66 @@
+-- Steps 6 to 8 with the count of reads apart: what a decision says is what the session's walker says.
+use Prim.Native.Nat.{ℕ}
+use mathlib.Core.Bool.{Bool, true, false, _||_}
+use mathlib.Core.Path.{_≡_, refl}
+use Rattle.descriptor.specs.Bits.{pick}
+use Rattle.vmsa.specs.Answers.{cacheableIn}
+use Rattle.vmsa.specs.declared.Regime.{Regime}
+use Rattle.vmsa.specs.declared.Access.{Access}
+use Rattle.vmsa.specs.declared.Leaf.{Leaf}
+use Rattle.vmsa.specs.declared.FaultKind.the-variants.{AccessFlag, Alignment, Permission}
+use Rattle.permission.specs.Permission.{flagFails, alignmentFails, permissionFails}
+use Rattle.permission.specs.Decision.{Decision, flagDue, dirtyDue, updated, failing, passing, decision}
+use Rattle.session.specs.Replies.{answered, replyOf, updates}
+use Rattle.session.specs.Ours.{judged, stamped}
+
+-- a decision, by the three tests
+abbrev decided : Regime → Access → Leaf → ℕ → Bool → Bool → Bool → Decision
+decided r a l n x y z = pick x (failing l n AccessFlag) (pick y (failing l n Alignment) (pick z (failing l n Permission) (passing r a l n)))
+
+module _ (r : Regime) (a : Access) (l : Leaf) (n : ℕ) where
+  reply-by : (x y z : Bool) → replyOf (decided r a l n x y z .result) ≡ answered (decided r a l 0 x y z .result) n
+  unfolding failing passing
+  reply-by true y z = refl
+  reply-by false true z = refl
+  reply-by false false true = refl
+  reply-by false false false = refl
+
+  update-by : (x y z : Bool) → decided r a l n x y z .update ≡ updates (decided r a l 0 x y z .result)
+  unfolding failing passing
+  update-by true y z = refl
+  update-by false true z = refl
+  update-by false false true = refl
+  update-by false false false = refl
+
+  value-by : (x y z : Bool) → decided r a l n x y z .value ≡ stamped (decided r a l 0 x y z .result) (l .value)
+  unfolding failing passing stamped updated
+  value-by true y z = refl
+  value-by false true z = refl
+  value-by false false true = refl
+  value-by false false false = refl
+
+  -- the reply: the answer that counts no reads, and the count
+  pub reply-decision : replyOf (decision r a l n .result) ≡ answered (judged r l a) n
+  unfolding decision judged
+  reply-decision = reply-by (flagFails r l) (alignmentFails r a l) (permissionFails r a l)
+
+  -- whether the leaf changes, and its value then
+  pub update-decision : decision r a l n .update ≡ updates (judged r l a)
+  unfolding decision judged
+  update-decision = update-by (flagFails r l) (alignmentFails r a l) (permissionFails r a l)
+
+  pub value-decision : decision r a l n .value ≡ stamped (judged r l a) (l .value)
+  unfolding decision judged
+  value-decision = value-by (flagFails r l) (alignmentFails r a l) (permissionFails r a l)
+
+  cache-by : (x y z : Bool) → cacheableIn (decided r a l n x y z .result) ≡ cacheableIn (decided r a l 0 x y z .result)
+  unfolding failing passing
+  cache-by true y z = refl
+  cache-by false true z = refl
+  cache-by false false true = refl
+  cache-by false false false = refl
+
+  -- whether it may be remembered
+  pub cache-decision : cacheableIn (decision r a l n .result) ≡ cacheableIn (judged r l a)
+  unfolding decision judged
+  cache-decision = cache-by (flagFails r l) (alignmentFails r a l) (permissionFails r a l)

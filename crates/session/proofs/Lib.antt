@@ -1,0 +1,4 @@
+pub mod Deciding
+pub mod Walking
+pub mod Entries
+pub mod Calls

@@ -1,0 +1,4 @@
+pub mod Replies
+pub mod Model
+pub mod Ours
+pub mod View

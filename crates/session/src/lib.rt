@@ -1,0 +1,278 @@
+// The session: 64 TLB entries, and the four calls. Each takes the session by value and hands it back.
+ghost use mathlib.Core.Path.{_≡_};
+ghost use mathlib.Core.List.{List};
+ghost use Prim.Native.Nat.{ℕ, _+_, _≤_, _<_};
+ghost use lib.ListN.{length, getD};
+ghost use Rattle.vmsa.specs.Answers.{view};
+ghost use Rattle.walk.specs.Walk.{keptLeaf};
+ghost use Rattle.session.specs.Replies.{done, replyOf, replyTo};
+ghost use Rattle.session.specs.Model.{fresh, entryOf, heldIn, keep as keepIn, walked as walkedOf, accessHeld, held as heldOf, setCall, accessCall, storeCall, dropCall};
+ghost use Rattle.session.specs.Ours.{usable as usableOf, ours};
+ghost use Rattle.session.specs.View.{noEntry, entryView, sessionView, stepped, heldLeaf, entryAnswer, askedReply, Low, walkedView};
+use checks::Checked;
+use vmsa::Access;
+use vmsa::Answer;
+use vmsa::Fault;
+use vmsa::FaultKind;
+use vmsa::Leaf;
+use vmsa::PhysAddr;
+use vmsa::Refusal;
+use vmsa::Regime;
+use walk::Kept;
+
+pub const ENTRIES: u64 = 64;
+
+// A TLB entry: the leaf that it holds of a page.
+pub struct Entry {
+    pub held: bool,
+    pub page: u64,
+    pub leaf: Leaf,
+}
+
+// A session: whether it has a regime, the regime last accepted, and the entries.
+pub struct Session {
+    pub set: bool,
+    pub regime: Regime,
+    pub entries: [Entry; 64],
+}
+
+// What an entry holds of a page.
+pub enum Held {
+    Leaf(Leaf),
+    Nothing,
+}
+
+// What an entry answers an access; or the walk does.
+pub enum Asked {
+    Answered(Answer),
+    Walk,
+}
+
+// What a set regime or a store hands back.
+pub struct Changed {
+    pub session: Session,
+    pub reply: Checked,
+}
+
+// What an access hands back.
+pub struct Accessed {
+    pub session: Session,
+    pub answer: Answer,
+}
+
+impl Entry {
+    // The empty entry.
+    pub fn empty() -> Self
+        ensures { λ e. ⌜ e ≡ noEntry ⌝ }
+    {
+        Entry {
+            held: false,
+            page: 0,
+            leaf: Leaf { value: 0, left: 0 },
+        }
+    }
+
+    // The leaf that it holds of a page.
+    pub fn held_of(self, page: u64) -> Held
+        ensures { λ h. ⌜ heldLeaf h ≡ heldIn (entryView self) page ⌝ }
+    {
+        let leaf = self.leaf;
+        if self.held & (leaf.left <= 3) {
+            if self.page == page {
+                return Held::Leaf(leaf);
+            }
+            return Held::Nothing;
+        }
+        Held::Nothing
+    }
+
+    // What it answers an access: the held leaf's answer with 0 reads, unless the page would become dirty.
+    pub fn ask(self, r: Regime, a: Access) -> Asked
+        requires { ⌜ 0 < a .size ⌝ }
+        ensures { λ x. ⌜ askedReply x ≡ entryAnswer ours r a (entryView self) ⌝ }
+    {
+        let page = vmsa::page_of(vmsa::PAGE_BITS, a.address);
+        let Held::Leaf(leaf) = self.held_of(page) else {
+            return Asked::Walk;
+        };
+        let verdict = permission::judge(r, a, leaf, 0);
+        let answer = verdict.answer;
+        if answer.dirtied() {
+            return Asked::Walk;
+        }
+        Asked::Answered(answer)
+    }
+}
+
+// Whether rows 3 and 4 let a regime through.
+fn usable(r: Regime) -> bool
+    ensures { λ b. ⌜ b ≡ usableOf r ⌝ }
+{
+    !(checks::sizes_bad(r) | checks::roots_bad(r))
+}
+
+// The walk of an access that no entry answers, in the pool's part of the memory.
+pub fn miss(memory: &mut [u8], r: Regime, a: Access) -> walk::Walked
+    requires { ⌜ (r .pool .start + r .pool .length ≤ length (now memory)) × (0 < a .size) ⌝ }
+    ensures { λ w. ⌜ (walkedView w (now (memory .exit)) ≡ walkedOf ours r (now (memory .entry)) a) × Low (w .kept) ⌝ }
+{
+    if usable(r) {
+        let start = r.pool.start;
+        let end = start + r.pool.length;
+        return walk::walk_leaf(&mut memory[start..end], r, a);
+    }
+    walk::Walked {
+        answer: Answer::Fault(Fault {
+            kind: FaultKind::Translation,
+            level: 0,
+            cacheable: false,
+            reads: 0,
+        }),
+        kept: Kept::Nothing,
+    }
+}
+
+impl Session {
+    // The fresh session: no regime, and every entry empty.
+    pub fn empty() -> Self
+        ensures { λ s. ⌜ sessionView s ≡ fresh ⌝ }
+    {
+        let entry = Entry::empty();
+        Session {
+            set: false,
+            regime: Regime::new(),
+            entries: [entry; 64],
+        }
+    }
+
+    // Sets the regime and empties every entry, after checks 1 to 5.
+    pub fn set_regime(self, memory: &[u8], r: Regime) -> Changed
+        ensures { λ x. ⌜ stepped (x .session) (now (memory .entry)) (replyTo (x .reply)) ≡ setCall ours (sessionView self) (now (memory .entry)) r ⌝ }
+    {
+        match checks::check_regime(memory.len(), r) {
+            Checked::Refused(refusal) => Changed {
+                session: self,
+                reply: Checked::Refused(refusal),
+            },
+            Checked::Accepted => {
+                let entry = Entry::empty();
+                let session = Session {
+                    set: true,
+                    regime: r,
+                    entries: [entry; 64],
+                };
+                Changed {
+                    session: session,
+                    reply: Checked::Accepted,
+                }
+            }
+        }
+    }
+
+    // Empties every entry ("drop all").
+    pub fn invalidate_all(mut self) -> Self
+        ensures { λ s. ⌜ ((m : List ℕ) → stepped s m done ≡ dropCall ours (sessionView self) m) ⌝ }
+    {
+        let entry = Entry::empty();
+        self.entries = [entry; 64];
+        self
+    }
+
+    // The entry of a page.
+    pub fn entry_of(self, page: u64) -> Entry
+        ensures { λ e. ⌜ e ≡ getD (self .entries) (entryOf page) noEntry ⌝ }
+    {
+        let i = (page % ENTRIES) as usize;
+        let entries = self.entries;
+        entries[i]
+    }
+
+    // The session with a leaf that may be remembered in its page's entry.
+    fn keep(mut self, page: u64, kept: Kept) -> Self
+        requires { ⌜ Low kept ⌝ }
+        ensures { λ s. ⌜ sessionView s ≡ record { regime = sessionView self .regime; entries = keepIn (sessionView self .entries) page (keptLeaf kept) } ⌝ }
+    {
+        let Kept::Leaf(leaf) = kept else {
+            return self;
+        };
+        let i = (page % ENTRIES) as usize;
+        self.entries[i] = Entry {
+            held: true,
+            page: page,
+            leaf: leaf,
+        };
+        self
+    }
+
+    // An access past its checks: its page's entry answers, or else the walk, whose leaf is kept.
+    fn answer(self, memory: &mut [u8], a: Access) -> Accessed
+        requires { ⌜ (self .regime .pool .start + self .regime .pool .length ≤ length (now memory)) × (0 < a .size) ⌝ }
+        ensures { λ x. ⌜ stepped (x .session) (now (memory .exit)) (replyOf (view (x .answer))) ≡ accessHeld ours (sessionView self) (now (memory .entry)) (self .regime) a (heldOf (sessionView self .entries) (ours .page (self .regime) a)) ⌝ }
+    {
+        let r = self.regime;
+        let page = vmsa::page_of(vmsa::PAGE_BITS, a.address);
+        match self.entry_of(page).ask(r, a) {
+            Asked::Answered(answer) => Accessed {
+                session: self,
+                answer: answer,
+            },
+            Asked::Walk => {
+                let missed = miss(memory, r, a);
+                let kept = missed.kept;
+                let answer = missed.answer;
+                let session = self.keep(page, kept);
+                Accessed {
+                    session: session,
+                    answer: answer,
+                }
+            }
+        }
+    }
+
+    // An access: refused with 9, 1, 6 or 7, or else answered.
+    pub fn access(self, memory: &mut [u8], a: Access) -> Accessed
+        ensures { λ x. ⌜ stepped (x .session) (now (memory .exit)) (replyOf (view (x .answer))) ≡ accessCall ours (sessionView self) (now (memory .entry)) a ⌝ }
+    {
+        if !self.set {
+            return Accessed {
+                session: self,
+                answer: Answer::Refused(Refusal::NoRegime),
+            };
+        }
+        match checks::check_session_access(memory.len(), self.regime.pool, a) {
+            Checked::Refused(refusal) => Accessed {
+                session: self,
+                answer: Answer::Refused(refusal),
+            },
+            Checked::Accepted => self.answer(memory, a),
+        }
+    }
+
+    // Stores one descriptor at a physical address in the pool: refused with 9, 1 or 8, or else done.
+    pub fn store(self, memory: &mut [u8], address: PhysAddr, value: u64) -> Changed
+        ensures { λ x. ⌜ stepped (x .session) (now (memory .exit)) (replyTo (x .reply)) ≡ storeCall ours (sessionView self) (now (memory .entry)) (address .0) value ⌝ }
+    {
+        if !self.set {
+            return Changed {
+                session: self,
+                reply: Checked::Refused(Refusal::NoRegime),
+            };
+        }
+        match checks::check_session_store(memory.len(), self.regime.pool, address) {
+            Checked::Refused(refusal) => Changed {
+                session: self,
+                reply: Checked::Refused(refusal),
+            },
+            Checked::Accepted => {
+                let start = self.regime.pool.start;
+                let end = start + self.regime.pool.length;
+                let offset = (address.0 - self.regime.pool.address.0) as usize;
+                descriptor::store(&mut memory[start..end], offset, value);
+                Changed {
+                    session: self,
+                    reply: Checked::Accepted,
+                }
+            }
+        }
+    }
+}

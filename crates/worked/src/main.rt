@@ -1,0 +1,206 @@
+// Runs the worked cases P1 to P12, and prints a line for each: its answer, and the leaf descriptor afterwards.
+ghost use mathlib.Core.Path.{_≡_};
+ghost use Rattle.vmsa.specs.Settings.{withPool};
+ghost use Rattle.walk.specs.Walk.{outcome, walk as walkOf};
+ghost use Rattle.cases.specs.Cases.{base as baseOf, poolOf, eight as eightOf, access as accessOf, usual as usualOf, puts, tablesWith};
+ghost use Rattle.worked.specs.Room.{Roomy};
+use libc::STDOUT_FILENO;
+use vmsa::Access;
+use vmsa::AccessKind;
+use vmsa::Answer;
+use vmsa::Fault;
+use vmsa::PhysAddr;
+use vmsa::Pool;
+use vmsa::Range;
+use vmsa::Refusal;
+use vmsa::Regime;
+use vmsa::Success;
+use vmsa::VirtAddr;
+
+// The physical address of the pool's first byte; the root table stands there.
+const POOL_ADDRESS: u64 = 0x40000000;
+
+// The pool's length, and the one that is refused.
+const LENGTH: usize = 65536;
+
+const LONG_LENGTH: usize = 69632;
+
+// The third descriptor and the leaf that the cases start from, and the leaf's offset in the pool.
+const THIRD: u64 = 0x40003003;
+
+const LEAF: u64 = 0x00080000800053C3;
+
+const LEAF_OFFSET: usize = 0x3018;
+
+// ---- what the cases start from
+
+// Eight attribute bytes, all alike.
+fn eight(attribute: u8) -> u64
+    ensures { λ r. ⌜ r ≡ eightOf attribute ⌝ }
+{
+    0x0101010101010101 * (attribute as u64)
+}
+
+// The regime, with a pool of this length from the memory's first byte on.
+fn base(length: usize) -> Regime
+    ensures { λ r. ⌜ r ≡ withPool baseOf (poolOf length) ⌝ }
+{
+    let root = PhysAddr(POOL_ADDRESS);
+    let pool = Pool {
+        start: 0,
+        length: length,
+        address: root,
+    };
+    let range = Range {
+        root: root,
+        tsz: 16,
+        disabled: false,
+    };
+    Regime::new()
+        .with_pool(pool)
+        .with_range0(range)
+        .with_range1(range)
+        .with_output(5)
+        .with_ha(true)
+        .with_hd(true)
+        .with_attributes(eight(0xFF))
+}
+
+// An access from EL0, and the one at 0x403ABC of size 4.
+fn access(address: u64, size: u64, kind: AccessKind) -> Access
+    ensures { λ a. ⌜ a ≡ accessOf address size kind ⌝ }
+{
+    Access {
+        address: VirtAddr(address),
+        size: size,
+        el0: true,
+        kind: kind,
+    }
+}
+
+fn usual(kind: AccessKind) -> Access
+    ensures { λ a. ⌜ a ≡ usualOf kind ⌝ }
+{
+    access(0x403ABC, 4, kind)
+}
+
+// Puts the four descriptors into the memory.
+fn fill(memory: &mut [u8], third: u64, leaf: u64)
+    requires { ⌜ Roomy (now memory) ⌝ }
+    ensures { λ _. ⌜ now (memory .exit) ≡ puts (now (memory .entry)) (tablesWith third leaf) ⌝ }
+{
+    descriptor::store(memory, 0, 0x40001003);
+    descriptor::store(memory, 0x1000, 0x40002003);
+    descriptor::store(memory, 0x2010, third);
+    descriptor::store(memory, LEAF_OFFSET, leaf);
+}
+
+// ---- what is printed
+
+fn print(text: &[u8]) {
+    io::write_all(STDOUT_FILENO, text);
+}
+
+fn print_decimal(x: u64) {
+    io::print_decimal(STDOUT_FILENO, x);
+}
+
+// All 16 digits.
+fn print_hex(x: u64) {
+    io::print_hex(STDOUT_FILENO, x, 16);
+}
+
+fn print_if(holds: bool, text: &[u8]) {
+    if holds {
+        print(text);
+    }
+}
+
+fn print_reads(reads: u8, leaf: u64) {
+    print(b" reads ");
+    print_decimal(reads as u64);
+    print(b" leaf ");
+    print_hex(leaf);
+}
+
+fn print_success(s: Success, leaf: u64) {
+    print(b" ok ");
+    print_hex(s.output.0);
+    print_reads(s.reads, leaf);
+    print_if(s.accessed, b" accessed");
+    print_if(s.dirtied, b" dirtied");
+    print_if(s.cacheable, b" cacheable");
+}
+
+fn print_fault(f: Fault, leaf: u64) {
+    print(b" fault ");
+    print_decimal(f.code() as u64);
+    print_reads(f.reads, leaf);
+    print_if(f.cacheable, b" cacheable");
+}
+
+fn print_refusal(x: Refusal) {
+    print(b" refused ");
+    print_decimal(x.number() as u64);
+}
+
+// The line of case P number.
+fn print_line(number: u64, answer: Answer, leaf: u64) {
+    print(b"P");
+    print_decimal(number);
+    match answer {
+        Answer::Success(s) => print_success(s, leaf),
+        Answer::Fault(f) => print_fault(f, leaf),
+        Answer::Refused(x) => print_refusal(x),
+    }
+    print(b"\n");
+}
+
+// ---- the cases
+
+// The walk of an access in the memory with the four descriptors put in.
+fn walk_filled(memory: &mut [u8], r: Regime, a: Access, third: u64, leaf: u64) -> Answer
+    requires { ⌜ Roomy (now memory) ⌝ }
+    ensures { λ v. ⌜ outcome v (now (memory .exit)) ≡ walkOf r a (puts (now (memory .entry)) (tablesWith third leaf)) ⌝ }
+{
+    fill(memory, third, leaf);
+    walk::walk(memory, r, a)
+}
+
+// Runs case P number in this memory.
+fn run_in(memory: &mut [u8], number: u64, r: Regime, a: Access, third: u64, leaf: u64)
+    requires { ⌜ Roomy (now memory) ⌝ }
+{
+    let answer = walk_filled(memory, r, a, third, leaf);
+    print_line(number, answer, descriptor::load(memory, LEAF_OFFSET));
+}
+
+// Runs it in a memory of zeros that is exactly the pool.
+fn run(number: u64, r: Regime, a: Access, third: u64, leaf: u64) {
+    let mut memory = [0u8; LENGTH];
+    run_in(&mut memory, number, r, a, third, leaf);
+}
+
+fn main() {
+    let r = base(LENGTH);
+    let read = usual(AccessKind::Read);
+    let write = usual(AccessKind::Write);
+    let probe = access(0x403ABC, 1, AccessKind::ProbeWrite);
+    let odd = access(0x403ABD, 2, AccessKind::Read);
+    let device = r.with_attributes(eight(0x00));
+    run(1, r, read, THIRD, LEAF);
+    run(2, r, write, THIRD, LEAF);
+    run(3, r, probe, THIRD, LEAF);
+    run(4, r.with_hd(false), write, THIRD, LEAF);
+    run(5, r.with_ha(false), write, THIRD, LEAF);
+    run(6, r, read, 0x4000F003, LEAF);
+    run(7, r, read, 0x40010003, LEAF);
+    run(8, r.with_output(0), read, THIRD, 0x00080001000003C3);
+    run(9, r, read, THIRD, 0x00080000800053C1);
+    run(10, device, odd, THIRD, LEAF);
+    run(11, r, access(0x403FFC, 4, AccessKind::Read), THIRD, LEAF);
+    run(11, r, access(0x403FFD, 4, AccessKind::Read), THIRD, LEAF);
+    run(12, r, read, THIRD, LEAF);
+    let mut long = [0u8; LONG_LENGTH];
+    run_in(&mut long, 12, base(LONG_LENGTH), read, THIRD, LEAF);
+}
