@@ -1,13 +1,17 @@
-//! Compares the library's walk with a second walker over many made cases.
+//! Compares the library with a second walker: its walk over many made cases,
+//! then its session over many made scripts.
 //!
 //! `compare [seed] [--trace]`: the seed is decimal or 0x hexadecimal. With
-//! `--trace` each case is told on standard error before the library is
-//! called, so that a crash can be placed.
+//! `--trace` each case and each call is told on standard error before the
+//! library is called, so that a crash can be placed.
 
 mod comparison;
 
-use compare::boundary::{CAccess, CAnswer, CRegime, Library};
-use compare::cases;
+use compare::boundary::{
+    CAccess, CAccessed, CAnswer, CChanged, CRegime, CSession, Library, LibrarySession,
+    SessionFunctions,
+};
+use compare::{cases, scripts};
 use comparison::Comparison;
 use std::process::ExitCode;
 
@@ -15,13 +19,73 @@ const DEFAULT_SEED: u64 = 0x0148_7D1E_5CA1_AB1E;
 
 extern "C" {
     fn vmsa_walk(memory: *mut u8, length: usize, regime: CRegime, access: CAccess) -> CAnswer;
+    fn vmsa_session_empty() -> CSession;
+    fn vmsa_session_set_regime(
+        session: CSession,
+        memory: *const u8,
+        length: usize,
+        regime: CRegime,
+    ) -> CChanged;
+    fn vmsa_session_access(
+        session: CSession,
+        memory: *mut u8,
+        length: usize,
+        access: CAccess,
+    ) -> CAccessed;
+    fn vmsa_session_store(
+        session: CSession,
+        memory: *mut u8,
+        length: usize,
+        address: u64,
+        value: u64,
+    ) -> CChanged;
+    fn vmsa_session_invalidate_all(session: CSession) -> CSession;
 }
+
+const SESSION: SessionFunctions = SessionFunctions {
+    empty: vmsa_session_empty,
+    set_regime: vmsa_session_set_regime,
+    access: vmsa_session_access,
+    store: vmsa_session_store,
+    invalidate_all: vmsa_session_invalidate_all,
+};
 
 fn parse_seed(text: &str) -> Option<u64> {
     match text.strip_prefix("0x") {
         Some(digits) => u64::from_str_radix(digits, 16).ok(),
         None => text.parse().ok(),
     }
+}
+
+/// The walk; a difference ends the run at once.
+fn compare_walks(seed: u64, trace: bool) -> bool {
+    // SAFETY: this is the function under test; that it keeps to its lent
+    // memory is what it promises, and the margins look after that.
+    let library = unsafe { Library::new(vmsa_walk) };
+    let mut comparison = Comparison::new(library, seed, trace);
+    cases::run_all(seed, &mut comparison);
+    if !comparison.tally.report() {
+        return false;
+    }
+    println!("compared {} cases, 0 differences", comparison.number);
+    true
+}
+
+/// The session.
+fn compare_scripts(seed: u64, trace: bool) -> bool {
+    // SAFETY: as above.
+    let fresh = || unsafe { LibrarySession::fresh(SESSION) };
+    let mut tally = scripts::Tally::default();
+    if let Err(difference) = scripts::run_all(seed, trace, fresh, &mut tally) {
+        println!("{difference}");
+        return false;
+    }
+    if !tally.report() {
+        return false;
+    }
+    let (scripts, calls) = (scripts::SCRIPTS, scripts::CALLS);
+    println!("compared {scripts} scripts of {calls} calls, 0 differences");
+    true
 }
 
 fn main() -> ExitCode {
@@ -38,15 +102,9 @@ fn main() -> ExitCode {
         }
     }
     println!("seed {seed}");
-
-    // SAFETY: this is the function under test; that it keeps to its lent
-    // memory is what it promises, and the margins look after that.
-    let library = unsafe { Library::new(vmsa_walk) };
-    let mut comparison = Comparison::new(library, seed, trace);
-    cases::run_all(seed, &mut comparison);
-    if !comparison.tally.report() {
-        return ExitCode::from(1);
+    if compare_walks(seed, trace) && compare_scripts(seed, trace) {
+        ExitCode::SUCCESS
+    } else {
+        ExitCode::from(1)
     }
-    println!("compared {} cases, 0 differences", comparison.number);
-    ExitCode::SUCCESS
 }

@@ -1,7 +1,11 @@
 -- A descriptor as 8 little-endian bytes of a memory (01, "The guest, its pool and its regime").
-use Prim.Native.Nat.{ℕ, zero, suc, _+_, _*_, _/_, _%_}
+use Prim.Native.Nat.{ℕ, zero, suc, _+_, _*_, _/_, _%_, _<_}
 use mathlib.Core.List.{List, [], _∷_, _++_}
-use lib.ListN.{take, drop}
+use lib.ListN.{getD, take, drop}
+
+-- a memory of bytes: each is a number below 256; past the end getD gives 0
+abbrev pub Bytes : List ℕ → Type 0
+Bytes memory = (i : ℕ) → getD memory i 0 < 256
 
 -- the number that bytes stand for, the lowest byte first
 unfoldable pub number : List ℕ → ℕ

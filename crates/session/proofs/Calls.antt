@@ -30,14 +30,15 @@ use Rattle.walk.specs.declared.Walked.{Walked as WalkedStruct}
 use Rattle.walk.specs.declared.Kept.{Kept}
 use Rattle.walk.specs.declared.Kept.the-variants as kept
 use Rattle.walk.specs.Walk.{Outcome, outcome, traced, walkPool, keptAt, keptPool, keptLeaf}
-use Rattle.walk.proofs.Ends.{found, put-back}
+use Rattle.walk.proofs.Parts.{put-back, length-part}
+use Rattle.walk.proofs.Ends.{found}
 use Rattle.session.specs.declared.Session.{Session as SessionStruct}
 use Rattle.session.specs.Replies.{replyOf}
 use Rattle.vmsa.specs.declared.FaultKind.the-variants.{Translation}
 use Rattle.session.specs.Model.{Walked, lost, walkFrom, Stepped, Session, andThen, walked, keep, learn, setBy, setCall, accessBy, accessIn, accessCall, storeBy, storeIn, storeCall, put}
 use Rattle.session.specs.Ours.{usable, offsetOf, located, ours}
 use Rattle.session.specs.View.{sessionView, stepped, walkedView, Low}
-use Rattle.session.proofs.Walking.{first-append, usable-sized, usable-root, put-is, walkedPool, walked-pool, pool-length}
+use Rattle.session.proofs.Walking.{first-append, usable-sized, usable-root, put-is, walkedPool, walked-pool}
 
 clash : {A : Type 0} → _≡_ {A = ℕ} 0 1 → A
 clash z = absurd (let y : _≡_ {A = ℕ} 0 1 = z in omega arith)
@@ -168,4 +169,4 @@ learned s after r m a w x e k =
 -- a storable descriptor lies in the pool's part of the memory
 pub store-room : (r : Regime) (m : List ℕ) (address k : ℕ) → Storable (length m) (r .pool) address → k ≡ r .pool .length
     → (address - r .pool .address .0) + 8 ≤ length (take k (drop (r .pool .start) m))
-store-room r m address k h q = rw (q, pool-length r m (h .fits)) (omega (arith, h .least, h .most))
+store-room r m address k h q = rw (q, length-part m (r .pool .start) (r .pool .length) (h .fits)) (omega (arith, h .least, h .most))

@@ -31,7 +31,8 @@ use Rattle.lookup.specs.Steps.{rangeOf}
 use Rattle.lookup.proofs.Page.{locate-page}
 use Rattle.permission.specs.Decision.{decision}
 use Rattle.walk.specs.Walk.{Outcome, poolOf, withPool, settled, concluded, traced, walkPool, keptOf, keptAt, keptPool}
-use Rattle.walk.proofs.Ends.{root-aligned, put-back, found}
+use Rattle.walk.proofs.Parts.{with-own, with-put, length-part}
+use Rattle.walk.proofs.Ends.{root-aligned, found}
 use Rattle.session.specs.Replies.{Reply, answered, replyOf, updates}
 use Rattle.session.specs.Model.{Spot, lost, found as foundAt, Walked, andThen, revalued, put, landed, walkFrom, walked}
 use Rattle.session.specs.Ours.{usable, offsetOf, spotAt, spotOf, located, judged, stamped, ours}
@@ -79,22 +80,6 @@ pub put-is : (r : Regime) (m : List ℕ) (at v : ℕ) → put ours r m at v ≡ 
 unfolding put putDescriptor
 put-is r m at v = rw (length-bytes v)
 
-with-same : (r : Regime) (m : List ℕ) → withPool (r .pool) m (poolOf (r .pool) m) ≡ m
-with-same r m =
-    let s = r .pool .start in
-    let n = r .pool .length in
-    sym (put-back m (take n (drop s m)) s n) ∙ rw (take-append-drop n (drop s m), take-append-drop s m)
-
-with-put : (r : Regime) (m : List ℕ) (i v : ℕ) → r .pool .start + r .pool .length ≤ length m → i + 8 ≤ r .pool .length
-    → withPool (r .pool) m (putDescriptor (poolOf (r .pool) m) i v) ≡ putDescriptor m (r .pool .start + i) v
-with-put r m i v h k =
-    let s = r .pool .start in
-    let n = r .pool .length in
-    sym (put-back m (putDescriptor (take n (drop s m)) i v) s n) ∙ put-part m s n i v h k
-
-pub pool-length : (r : Regime) (m : List ℕ) → r .pool .start + r .pool .length ≤ length m → length (poolOf (r .pool) m) ≡ r .pool .length
-pool-length r m h = length-take-le (r .pool .length) (drop (r .pool .start) m) (rw (length-drop (r .pool .start) m) (omega arith))
-
 -- ---- the walk over the memory
 
 -- the plain walk over the pool, in the session's values
@@ -116,18 +101,17 @@ module _ (r : Regime) (m : List ℕ) (a : Access) (z : Sized r) (e : rangeOf r (
   memory-by : (at : ℕ) (v : ℕ) (b : Bool) → (at - r .pool .address .0) + 8 ≤ r .pool .length
       → pick b (put ours r m (offsetOf r at) v) m ≡ withPool (r .pool) m (pick b (putDescriptor pool (at - r .pool .address .0) v) pool)
   unfolding pool
-  memory-by at v true k = put-is r m (offsetOf r at) v ∙ sym (with-put r m (at - r .pool .address .0) v h k)
-  memory-by at v false k = sym (with-same r m)
+  memory-by at v b k = rw (put-is r m (offsetOf r at) v) (sym (with-put m (r .pool .start) (r .pool .length) (at - r .pool .address .0) v b h k))
 
   by-end : (n : ℕ) (x : End) → trace .end ≡ x
       → walkFrom ours r m a (spotAt r n x)
       ≡ record { reply = replyOf (concluded r a pool n x .result); memory = withPool (r .pool) m (concluded r a pool n x .bytes); kept = keptAt r a n x }
   unfolding trace pool
-  by-end n (fault kind level) q = rw (with-same r m)
+  by-end n (fault kind level) q = rw (with-own m (r .pool .start) (r .pool .length))
   by-end n (leaf at v left) q =
       let l : Leaf = record { value = v; left = left } in
       let f = found r (poolOf (r .pool) m) (a .address .0) at v left z e q in
-      let k : (at - r .pool .address .0) + 8 ≤ r .pool .length = (let p = pool-length r m h in omega (arith, f .inside .least, f .inside .most)) in
+      let k : (at - r .pool .address .0) + 8 ≤ r .pool .length = (let p = length-part m (r .pool .start) (r .pool .length) h in omega (arith, f .inside .least, f .inside .most)) in
       rw (update-decision r a l n, value-decision r a l n, reply-decision r a l n, cache-decision r a l n)
       (ap (λ (x : List ℕ). record { reply = answered (judged r l a) n; memory = x; kept = pick (cacheableIn (judged r l a)) (some (revalued l (stamped (judged r l a) v))) none })
       (memory-by at (stamped (judged r l a) v) (updates (judged r l a)) k))

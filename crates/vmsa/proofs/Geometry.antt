@@ -1,5 +1,5 @@
 -- Facts of the geometry, for any granule.
-use Prim.Native.Nat.{ℕ, _+_, _-_, _*_, _/_, _%_, _^_, _<_, _≤_}
+use Prim.Native.Nat.{ℕ, zero, suc, _+_, _-_, _*_, _/_, _%_, _^_, _<_, _≤_}
 use mathlib.Core.Bool.{Bool, true, false}
 use mathlib.Core.Path.{_≡_, refl, ap, sym, _∙_}
 use native.Mathlib.Omega.{arith}
@@ -7,7 +7,7 @@ use native.Mathlib.Nat.{mul-le-mul, div-lt-iff-lt-mul, le-div-iff-mul-le, div-mu
 use lib.Dec.{lit≤, lit<}
 use lib.Pow.{pow-pos, pow-mono}
 use Rattle.vmsa.specs.Limits.{tszLeast, addressLimit, pageBits}
-use Rattle.vmsa.specs.Geometry.{shiftOf, span, firstLeft, cut, Paged}
+use Rattle.vmsa.specs.Geometry.{shiftOf, span, firstLeft, cut, outputBits, Paged}
 
 -- the 4 KiB granule is one
 pub paged : Paged pageBits
@@ -46,3 +46,14 @@ span-le p left h k = pow-mono {i = shiftOf p left} {j = 55} (shift-le p left h k
 pub cut-lt : (v s : ℕ) → cut v s < addressLimit
 unfolding cut
 cut-lt v s = omega (arith, div-mul-le-self (v % addressLimit) s)
+
+-- an output size has at least 32 bits
+pub least-output : (code : ℕ) → 32 ≤ outputBits code
+unfolding outputBits
+least-output zero = lit≤ tt
+least-output (suc zero) = lit≤ tt
+least-output (suc (suc zero)) = lit≤ tt
+least-output (suc (suc (suc zero))) = lit≤ tt
+least-output (suc (suc (suc (suc zero)))) = lit≤ tt
+least-output (suc (suc (suc (suc (suc zero))))) = lit≤ tt
+least-output (suc (suc (suc (suc (suc (suc code)))))) = lit≤ tt

@@ -34,6 +34,7 @@ use Rattle.lookup.proofs.Decoding.{aligned8}
 use Rattle.lookup.proofs.Reach.{Good, Reached, locate-good, InPool, in-pool}
 use Rattle.permission.specs.declared.Verdict.{Verdict}
 use Rattle.permission.specs.Decision.{decision, seen}
+use Rattle.walk.proofs.Parts.{put-back}
 use Rattle.walk.specs.Walk.{Outcome, traced, outcome, settled, walkPool, keptOf, keptPool, walk}
 
 clash : {A : Type 0} → _≡_ {A = ℕ} 0 1 → A
@@ -83,10 +84,6 @@ found r pool address a v left z e q =
     let g : Reached (contextOf r address) read a v left = subst (λ (x : End). Good (contextOf r address) read x) q (locate-good r read address z e) in
     record { reached = g; inside = in-pool pool (r .pool .address .0) a v (g .value) }
 
--- a part put back, as the borrow checker has it and as the definition says it
-pub put-back : (m x : List ℕ) (s n : ℕ) → take s m ++ (x ++ drop n (drop s m)) ≡ take s m ++ x ++ drop (s + n) m
-put-back m x s n = rw (drop-drop n s m, append-assoc)
-
 -- ---- the answer over the pool, from what the code computed
 
 module _ (r : Regime) (a : Access) (pool : List ℕ) (l : Located) (q : l ≡ shown 0 (traced r pool (a .address .0))) where
@@ -123,7 +120,7 @@ module _ (r : Regime) (a : Access) (pool : List ℕ) (l : Located) (q : l ≡ sh
 
 -- ---- what acceptance gives the walk over the pool
 
-aligned-zero : (x : ℕ) → unaligned pageBits x ≡ false → x % pageSize pageBits ≡ 0
+pub aligned-zero : (x : ℕ) → unaligned pageBits x ≡ false → x % pageSize pageBits ≡ 0
 unfolding unaligned
 aligned-zero x e = eqb-true (x % pageSize pageBits) 0 (not-false (eqb (x % pageSize pageBits) 0) e)
 

@@ -1,0 +1,44 @@
+//! Scripts of calls, each from a fresh session over one memory.
+
+mod calls;
+mod play;
+mod tally;
+mod world;
+
+use crate::boundary::{Spelling, Subject};
+use crate::random::Random;
+use crate::session::Call;
+use calls::Script;
+use play::Play;
+pub use tally::Tally;
+
+pub const SCRIPTS: u64 = 6_000;
+pub const CALLS: usize = 40;
+
+/// A call and how it is made.
+#[derive(Clone, Copy, Debug)]
+pub struct Step {
+    pub call: Call,
+    /// How many bytes of the memory are lent.
+    pub lent: usize,
+    pub spelling: Spelling,
+}
+
+/// Plays all scripts to a session and to the reference. Ends at the first
+/// difference, which it tells.
+pub fn run_all<S: Subject>(
+    seed: u64,
+    trace: bool,
+    fresh: impl Fn() -> S,
+    tally: &mut Tally,
+) -> Result<(), String> {
+    let mut random = Random::new(seed);
+    for number in 1..=SCRIPTS {
+        let mut script = Script::draw(number, Random::new(random.bits()));
+        tally.begin(script.family);
+        let mut play = Play::new(number, trace, fresh(), &script.world.memory, tally);
+        let played = play.run(&mut script);
+        played.map_err(|why| play.tell(seed, script.family, &why))?;
+    }
+    Ok(())
+}

@@ -1,0 +1,353 @@
+//! The calls of a script, drawn one by one as the session goes on.
+
+use super::world::{draw_usable_leaf, lead_to, set_bit, vary, Leaves, World};
+use super::Step;
+use crate::boundary::Spelling;
+use crate::cases::scene::{draw_access, draw_access_of, draw_table};
+use crate::random::Random;
+use crate::reference::{
+    find_leaf, offset_in_memory, output_limit, read_descriptor, row_1, Access, Kind, Regime, AF,
+    AP1, AP2, DBM, GRANULE, PHYSICAL_LIMIT, POOL_LIMIT, PXN, UXN,
+};
+use crate::session::{Call, Session};
+
+/// How often each sort of call comes.
+#[derive(Clone, Copy)]
+struct Mood {
+    store: u64,
+    drop: u64,
+    regime: u64,
+    bad_regime: u64,
+    bad_access: u64,
+    /// The rest, to 100, are accesses; of 8 of them, so many write.
+    writes: u64,
+    /// One call in so many is lent another length.
+    odd_length: u64,
+}
+
+const EVEN: Mood = Mood {
+    store: 16,
+    drop: 3,
+    regime: 3,
+    bad_regime: 3,
+    bad_access: 3,
+    writes: 1,
+    odd_length: 40,
+};
+
+pub struct Script {
+    pub family: &'static str,
+    pub world: World,
+    pub random: Random,
+    mood: Mood,
+    /// The pages most accesses go to.
+    hot: Vec<u64>,
+    /// Descriptors that were stored over, and what they were.
+    undone: Vec<(u64, u64)>,
+}
+
+impl Script {
+    /// A world and a mood, turn by turn.
+    pub fn draw(number: u64, mut random: Random) -> Script {
+        let mixed = |random: &mut Random| World::planned(random, Leaves::Mixed);
+        let clean = |random: &mut Random| World::planned(random, Leaves::Clean);
+        let (family, mood, world) = match number % 16 {
+            _ if number % 500 == 7 => ("long", EVEN, World::long(&mut random)),
+            0..=3 => ("trees", EVEN, mixed(&mut random)),
+            4..=7 => {
+                let dirty = Mood { writes: 4, ..EVEN };
+                ("dirty", dirty, clean(&mut random))
+            }
+            8 | 9 => {
+                let stores = Mood { store: 35, ..EVEN };
+                ("stores", stores, clean(&mut random))
+            }
+            10 | 11 => {
+                let regimes = Mood {
+                    store: 10,
+                    drop: 8,
+                    regime: 10,
+                    bad_regime: 10,
+                    bad_access: 10,
+                    odd_length: 8,
+                    ..EVEN
+                };
+                ("regimes", regimes, mixed(&mut random))
+            }
+            12 => {
+                // No store, so that the first half speaks all the way.
+                let quiet = Mood {
+                    store: 0,
+                    writes: 3,
+                    ..EVEN
+                };
+                ("quiet", quiet, clean(&mut random))
+            }
+            13 => {
+                let fill = Mood {
+                    store: 4,
+                    drop: 0,
+                    regime: 0,
+                    ..EVEN
+                };
+                ("wide", fill, World::wide(&mut random))
+            }
+            _ => ("noise", EVEN, World::unplanned(&mut random)),
+        };
+        let count = if family == "wide" { 40 } else { 5 };
+        let hot = (0..count).map(|_| random.pick(&world.pages)).collect();
+        Script {
+            family,
+            world,
+            random,
+            mood,
+            hot,
+            undone: Vec::new(),
+        }
+    }
+
+    /// The next call, by the session and memory of this moment.
+    pub fn next(&mut self, session: &Session, memory: &[u8]) -> Step {
+        let (call, lent) = self.draw_call(session, memory);
+        let lent = if self.random.once_in(self.mood.odd_length) {
+            self.draw_length(session)
+        } else {
+            lent.unwrap_or_else(|| self.usual_length(session))
+        };
+        Step {
+            call,
+            lent,
+            spelling: Spelling::draw(&mut self.random),
+        }
+    }
+
+    /// As much as is lent as a rule; at times all, if the regime needs it.
+    fn usual_length(&mut self, session: &Session) -> usize {
+        match session.regime {
+            Some(regime) if row_1(self.world.length, &regime.pool) => {
+                let length = self.world.length;
+                let all = self.world.memory.len();
+                self.random.pick(&[length, all, all])
+            }
+            _ => self.world.length,
+        }
+    }
+
+    /// Lengths around the pool's end, and beyond what is lent as a rule.
+    fn draw_length(&mut self, session: &Session) -> usize {
+        let all = self.world.memory.len();
+        let pool = session.regime.unwrap_or(self.world.regimes[0]).pool;
+        let end = pool.start + pool.length;
+        let any = self.random.below(all as u64 + 1) as usize;
+        let lengths = [0, 1, pool.start, end - 1, end - 8, end, end + 1, all, any];
+        self.random.pick(&lengths).min(all)
+    }
+
+    /// A call, and its length if that is not the usual one.
+    fn draw_call(&mut self, session: &Session, memory: &[u8]) -> (Call, Option<usize>) {
+        if session.regime.is_none() && self.random.coin() {
+            return self.draw_regime();
+        }
+        let mood = self.mood;
+        let mut left = self.random.below(100);
+        let mut turn = |share: u64| {
+            let taken = left < share;
+            left = left.saturating_sub(share);
+            taken
+        };
+        if turn(mood.store) {
+            (self.draw_store(session, memory), None)
+        } else if turn(mood.drop) {
+            (Call::DropAll, None)
+        } else if turn(mood.regime) {
+            self.draw_regime()
+        } else if turn(mood.bad_regime) {
+            (Call::SetRegime(self.draw_bad_regime()), None)
+        } else if turn(mood.bad_access) {
+            (Call::Access(self.draw_bad_access()), None)
+        } else {
+            (Call::Access(self.draw_good_access()), None)
+        }
+    }
+
+    fn draw_page(&mut self) -> u64 {
+        if self.random.once_in(10) {
+            self.random.pick(&self.world.pages)
+        } else {
+            self.random.pick(&self.hot)
+        }
+    }
+
+    fn draw_good_access(&mut self) -> Access {
+        let page = self.draw_page();
+        if self.random.below(8) < self.mood.writes {
+            let kind = self.random.pick(&[Kind::Write, Kind::Update]);
+            draw_access_of(&mut self.random, page, kind)
+        } else {
+            draw_access(&mut self.random, page)
+        }
+    }
+
+    /// Refused with 6 or 7.
+    fn draw_bad_access(&mut self) -> Access {
+        let mut access = self.draw_good_access();
+        let random = &mut self.random;
+        match random.below(5) {
+            0 => access.size = random.pick(&[0, 3, 5, 17, 32, 1 << 32, u64::MAX]),
+            1 => {
+                access.kind = Kind::Fetch;
+                access.size = random.pick(&[1, 2, 8, 16]);
+            }
+            2 => {
+                access.kind = Kind::Fetch;
+                access.address |= random.between(1, 3);
+            }
+            3 => {
+                access.kind = random.pick(&[Kind::ProbeRead, Kind::ProbeWrite]);
+                access.size = random.pick(&[0, 2, 4, 8, 16]);
+            }
+            _ => {
+                access.kind = random.pick(&[Kind::Read, Kind::Write, Kind::Update]);
+                access.size = random.pick(&[2, 4, 8, 16]);
+                access.address = (access.address | (GRANULE - 1)) - random.below(access.size - 1);
+            }
+        }
+        access
+    }
+
+    /// Home mostly, with the length it needs.
+    fn draw_regime(&mut self) -> (Call, Option<usize>) {
+        let random = &mut self.random;
+        match self.world.far {
+            Some(far) if random.once_in(6) => (Call::SetRegime(far), Some(self.world.memory.len())),
+            _ if random.once_in(3) => {
+                let some = random.pick(&self.world.regimes);
+                (Call::SetRegime(some), None)
+            }
+            _ => (Call::SetRegime(self.world.regimes[0]), None),
+        }
+    }
+
+    /// A regime that is refused, and differs from home in more than that.
+    fn draw_bad_regime(&mut self) -> Regime {
+        let home = self.world.regimes[0];
+        let random = &mut self.random;
+        let mut regime = vary(random, &home);
+        let range = random.below(2) as usize;
+        let pool = &mut regime.pool;
+        match random.below(5) {
+            0 => match random.below(6) {
+                0 => pool.start += 8,
+                1 => pool.length = 0,
+                2 => pool.length = POOL_LIMIT + GRANULE as usize,
+                3 => pool.start = self.world.memory.len() & !(GRANULE as usize - 1),
+                4 => pool.start = usize::MAX - (GRANULE as usize - 1),
+                _ => pool.length += 1,
+            },
+            1 => match random.below(3) {
+                0 => pool.address |= 1 << random.below(12),
+                1 => pool.address = PHYSICAL_LIMIT,
+                _ => pool.address = u64::MAX - (GRANULE - 1),
+            },
+            2 => match random.below(3) {
+                0 => regime.ranges[range].t = 15,
+                1 => regime.ranges[range].t = 40,
+                _ => regime.output_code = 6,
+            },
+            3 => match random.below(2) {
+                0 => regime.ranges[range].root |= 1 << random.below(12),
+                _ => regime.ranges[range].root |= 1 << random.between(48, 63),
+            },
+            _ => {
+                let byte = random.pick(&[0x01, 0x0F, 0x10, 0x40, 0xF0]);
+                regime.attributes[random.below(8) as usize] = byte;
+            }
+        }
+        regime
+    }
+
+    /// Mostly into a descriptor on the way to a hot page.
+    fn draw_store(&mut self, session: &Session, memory: &[u8]) -> Call {
+        let regime = session.regime.unwrap_or(self.world.regimes[0]);
+        let pool = regime.pool;
+        let fits = pool.start + pool.length <= memory.len();
+        let page = self.draw_page();
+        let mut visited = Vec::with_capacity(4);
+        if fits {
+            let _ = find_leaf(memory, &regime, page, &mut visited);
+        }
+        let inside = pool.address + 8 * self.random.below(pool.length as u64 / 8);
+        let last = visited.last().copied().unwrap_or(inside);
+        let address = match self.random.below(20) {
+            0..=9 => last,
+            10..=12 if !visited.is_empty() => self.random.pick(&visited),
+            13 | 14 => {
+                if let Some((address, value)) = self.undone.pop() {
+                    return Call::Store { address, value };
+                }
+                inside
+            }
+            15..=17 => self.draw_bad_address(&regime, last),
+            18 => pool.address + pool.length as u64 - 8,
+            _ => inside,
+        };
+        let offset = offset_in_memory(&pool, address);
+        let old = match offset {
+            Some(offset) if fits => read_descriptor(memory, offset),
+            _ => self.random.bits(),
+        };
+        if offset.is_some() && address & 7 == 0 {
+            self.undone.push((address, old));
+        }
+        let mut value = self.twist(&regime, old);
+        while self.random.once_in(3) {
+            value = self.twist(&regime, value);
+        }
+        Call::Store { address, value }
+    }
+
+    /// Off the multiples of 8, beside the pool, or far from it.
+    fn draw_bad_address(&mut self, regime: &Regime, good: u64) -> u64 {
+        let first = regime.pool.address;
+        let end = first + regime.pool.length as u64;
+        let random = &mut self.random;
+        match random.below(8) {
+            0 | 1 => good | random.between(1, 7),
+            2 => first.wrapping_sub(8),
+            3 => first.wrapping_sub(random.between(1, 7)),
+            4 => end,
+            5 => end - random.between(1, 7),
+            6 => good | 1 << random.between(48, 63),
+            _ => random.pick(&[u64::MAX, u64::MAX - 7, 1 << 63, PHYSICAL_LIMIT]),
+        }
+    }
+
+    /// A descriptor with something changed.
+    fn twist(&mut self, regime: &Regime, old: u64) -> u64 {
+        let random = &mut self.random;
+        let limit = output_limit(regime.output_code);
+        let granule = regime.pool.address + GRANULE * random.below(regime.pool.length as u64 / GRANULE);
+        let output = random.below(limit);
+        match random.below(24) {
+            0 | 1 => set_bit(old, AF, true),
+            2 | 3 => set_bit(old, AF, false),
+            4 | 5 => set_bit(old, AP2, false),
+            6 | 7 => set_bit(old, AP2, true),
+            8 => old ^ 1 << DBM,
+            9 => old ^ 1 << AP1,
+            10 => old ^ 1 << random.pick(&[PXN, UXN]),
+            11 => old & !1,
+            12 => old ^ 2,
+            13 | 14 => old ^ random.between(1, 7) << 2,
+            15 => lead_to(old, output),
+            16 => lead_to(old, limit | output),
+            17 => lead_to(old, regime.pool.address + regime.pool.length as u64),
+            18 => lead_to(old, granule),
+            19 => draw_usable_leaf(random, 3, output, Leaves::Clean),
+            20 => draw_usable_leaf(random, 2, output, Leaves::Clean),
+            21 => draw_table(random, granule),
+            22 => 0,
+            _ => random.bits(),
+        }
+    }
+}

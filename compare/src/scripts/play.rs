@@ -1,0 +1,295 @@
+//! Plays one script to a session under test and to the reference, holds each
+//! reply and each byte against the other's, and rule 3 against the list.
+
+use super::calls::Script;
+use super::tally::{Bytes, Tally};
+use super::{Step, CALLS};
+use crate::boundary::{plain_answer, Reply, Spelling, Subject};
+use crate::cases::scene::draw_access_of;
+use crate::reference::{row_1, Access, Answer, Kind, GRANULE};
+use crate::rule3::History;
+use crate::session::{Call, Session, Way, PLACES};
+use std::collections::BTreeSet;
+use std::fmt::Write;
+
+/// Bytes kept on both sides of the memory; nobody may touch them.
+const MARGIN: usize = 64;
+const MARGIN_BYTE: u8 = 0xA5;
+
+/// The memory of the session under test, between its margins.
+struct Arena {
+    bytes: Vec<u8>,
+    start: usize,
+}
+
+impl Arena {
+    /// The memory starts at any byte, aligned or not.
+    fn new(memory: &[u8], shift: usize) -> Self {
+        let start = MARGIN + shift;
+        let mut bytes = vec![MARGIN_BYTE; start + memory.len() + MARGIN];
+        bytes[start..start + memory.len()].copy_from_slice(memory);
+        Arena { bytes, start }
+    }
+
+    fn end(&self) -> usize {
+        self.bytes.len() - MARGIN
+    }
+
+    fn memory(&self) -> &[u8] {
+        &self.bytes[self.start..self.end()]
+    }
+
+    fn lend(&mut self, length: usize) -> &mut [u8] {
+        &mut self.bytes[self.start..][..length]
+    }
+
+    fn margins_stand(&self) -> bool {
+        let before = &self.bytes[..self.start];
+        let behind = &self.bytes[self.end()..];
+        before.iter().chain(behind).all(|&b| b == MARGIN_BYTE)
+    }
+}
+
+pub struct Play<'a, S> {
+    number: u64,
+    trace: bool,
+    subject: S,
+    arena: Arena,
+    session: Session,
+    memory: Vec<u8>,
+    history: History,
+    tally: &'a mut Tally,
+}
+
+impl<'a, S: Subject> Play<'a, S> {
+    pub fn new(
+        number: u64,
+        trace: bool,
+        subject: S,
+        memory: &[u8],
+        tally: &'a mut Tally,
+    ) -> Self {
+        Play {
+            number,
+            trace,
+            subject,
+            arena: Arena::new(memory, (number % 16) as usize),
+            session: Session::FRESH,
+            memory: memory.to_vec(),
+            history: History::new(memory),
+            tally,
+        }
+    }
+
+    /// All calls, then the look at every page that was used.
+    pub fn run(&mut self, script: &mut Script) -> Result<(), Vec<String>> {
+        for _ in 0..CALLS {
+            let step = script.next(&self.session, &self.memory);
+            self.play(&step)?;
+        }
+        self.probe(script)
+    }
+
+    fn trace(&self, what: &str, step: &Step) {
+        if self.trace {
+            let number = self.number;
+            eprintln!("script {number}, {what}: {step:x?}");
+        }
+    }
+
+    fn play(&mut self, step: &Step) -> Result<(), Vec<String>> {
+        let at = self.history.events().len();
+        self.trace(&format!("call {}", at + 1), step);
+        let before = self.session.clone();
+        let lent = &mut self.memory[..step.lent];
+        let (wanted, seen) = ask(&mut self.session, lent, &step.call);
+        let lent = self.arena.lend(step.lent);
+        let got = self.subject.call(lent, &step.call, step.spelling);
+        let after = self.arena.memory();
+        self.history.record(step.call, got, step.lent, after);
+
+        let mut why = differences(&wanted, &got, &self.memory, &self.arena);
+        match self.history.check(at) {
+            Ok(checked) if why.is_empty() => {
+                self.tally
+                    .note(&self.history, &before, seen.as_ref(), &checked);
+                return Ok(());
+            }
+            Ok(_) => {}
+            Err(broken) => why.extend(broken),
+        }
+        Err(why)
+    }
+
+    /// Asks for each page that was used, and for one beside it, in every
+    /// kind and over three memories; each time from where the script ended.
+    fn probe(&mut self, script: &mut Script) -> Result<(), Vec<String>> {
+        let used = self.history.events().iter().filter_map(|e| match e.call {
+            Call::Access(access) => Some(access.address & !(GRANULE - 1)),
+            _ => None,
+        });
+        let mut pages: BTreeSet<u64> = used.collect();
+        for page in pages.clone() {
+            let far = 1 << script.random.between(12, 63);
+            let near = PLACES as u64 * GRANULE;
+            pages.insert(page ^ script.random.pick(&[near, far]));
+        }
+        let lent = match self.session.regime {
+            Some(regime) if row_1(script.world.length, &regime.pool) => self.memory.len(),
+            _ => script.world.length,
+        };
+        for bytes in Bytes::ALL {
+            let memory = bytes.fill(&mut script.random, &self.memory);
+            let mut table = Table::new(&memory, self.arena.start - MARGIN);
+            for &page in &pages {
+                for kind in Kind::ALL {
+                    let access = draw_access_of(&mut script.random, page, kind);
+                    let step = Step {
+                        call: Call::Access(access),
+                        lent,
+                        spelling: Spelling::draw(&mut script.random),
+                    };
+                    self.trace(&format!("probe over {bytes:?}"), &step);
+                    self.probe_once(&mut table, bytes, &step, &access)?;
+                }
+            }
+        }
+        Ok(())
+    }
+
+    /// One access on copies of both sessions.
+    fn probe_once(
+        &mut self,
+        table: &mut Table,
+        bytes: Bytes,
+        step: &Step,
+        access: &Access,
+    ) -> Result<(), Vec<String>> {
+        let mut session = self.session.clone();
+        let mut subject = self.subject.clone();
+        let (wanted, _) = ask(&mut session, &mut table.memory[..step.lent], &step.call);
+        let lent = table.arena.lend(step.lent);
+        let got = subject.call(lent, &step.call, step.spelling);
+        let mut why = differences(&wanted, &got, &table.memory, &table.arena);
+
+        let promised = &mut table.promised[..step.lent];
+        match self.history.whole().promise(access, promised) {
+            Ok(Some((class, answer))) => {
+                if got != Reply::Answered(answer) {
+                    why.push(format!(
+                        "rule 3: second half, {class:?}: promised was {answer:x?}"
+                    ));
+                }
+                if table.arena.memory() != table.promised {
+                    why.push(format!("rule 3: second half, {class:?}: the bytes"));
+                }
+                self.tally.note_probe(class, bytes, &answer);
+            }
+            Ok(None) => {}
+            Err(words) => why.push(format!("rule 3: {words}")),
+        }
+        if !why.is_empty() {
+            why.push(format!("a new access after the script, over {bytes:?}:"));
+            why.push(format!("{step:x?}"));
+            why.push(format!("reference: {wanted:x?}"));
+            why.push(format!("library: {got:x?}"));
+            return Err(why);
+        }
+        table.restore();
+        Ok(())
+    }
+
+    /// Everything there is to know about a script that failed.
+    pub fn tell(&self, seed: u64, family: &str, why: &[String]) -> String {
+        let mut text = format!("DIFFERENCE in script {} of seed {seed}\n", self.number);
+        for line in why {
+            let _ = writeln!(text, "  {line}");
+        }
+        let bytes = self.memory.len();
+        let _ = writeln!(text, "family: {family}, memory: {bytes} bytes");
+        for (at, event) in self.history.events().iter().enumerate() {
+            let _ = writeln!(text, "call {}: {} bytes lent", at + 1, event.lent);
+            let _ = writeln!(text, "  {:x?}", event.call);
+            let _ = writeln!(text, "  {:x?}", event.reply);
+        }
+        let pairs = self.memory.iter().zip(self.arena.memory());
+        match pairs.clone().position(|(want, got)| want != got) {
+            Some(offset) => {
+                let (want, got) = (self.memory[offset], self.arena.memory()[offset]);
+                let _ = writeln!(
+                    text,
+                    "first differing byte: offset {offset:#x}, reference {want:#04x}, library {got:#04x}"
+                );
+            }
+            None => text.push_str("first differing byte: none\n"),
+        }
+        text
+    }
+}
+
+/// What the probes write to: a memory for each of the two sessions and for
+/// rule 3, put back after each.
+struct Table {
+    base: Vec<u8>,
+    arena: Arena,
+    memory: Vec<u8>,
+    promised: Vec<u8>,
+}
+
+impl Table {
+    fn new(base: &[u8], shift: usize) -> Self {
+        Table {
+            base: base.to_vec(),
+            arena: Arena::new(base, shift),
+            memory: base.to_vec(),
+            promised: base.to_vec(),
+        }
+    }
+
+    fn restore(&mut self) {
+        let length = self.base.len();
+        if self.memory != self.base {
+            self.memory.copy_from_slice(&self.base);
+            self.arena.lend(length).copy_from_slice(&self.base);
+        }
+        if self.promised != self.base {
+            self.promised.copy_from_slice(&self.base);
+        }
+    }
+}
+
+/// A call to the reference, its reply in the library's form.
+fn ask(session: &mut Session, memory: &mut [u8], call: &Call) -> (Reply, Option<(Answer, Way)>) {
+    match call {
+        Call::SetRegime(regime) => {
+            let refusal = session.set_regime(memory.len(), regime);
+            (Reply::Changed(refusal.unwrap_or(0)), None)
+        }
+        Call::Access(access) => {
+            let seen = session.access(memory, access);
+            (Reply::Answered(plain_answer(&seen.0)), Some(seen))
+        }
+        Call::Store { address, value } => {
+            let refusal = session.store(memory, *address, *value);
+            (Reply::Changed(refusal.unwrap_or(0)), None)
+        }
+        Call::DropAll => {
+            session.drop_all();
+            (Reply::Dropped, None)
+        }
+    }
+}
+
+fn differences(wanted: &Reply, got: &Reply, memory: &[u8], arena: &Arena) -> Vec<String> {
+    let mut why = Vec::new();
+    if got != wanted {
+        why.push(format!("the replies differ: the reference's is {wanted:x?}"));
+    }
+    if arena.memory() != memory {
+        why.push("the memories differ".to_string());
+    }
+    if !arena.margins_stand() {
+        why.push("bytes beside the memory were written".to_string());
+    }
+    why
+}

@@ -1,0 +1,342 @@
+//! Where scripts play: a memory with tables in it, regimes that speak of
+//! them, and pages worth asking for.
+
+use crate::cases::scene::{
+    draw_device, draw_granules, draw_leaf, draw_normal, draw_table, Placement, Scene,
+};
+use crate::random::Random;
+use crate::reference::{
+    first_level, lowest_index_bit, refusal_of_regime, Regime, ADDRESS_FIELD, AF, AP1, AP2, DBM,
+    GRANULE, MEMORY_LIMIT,
+};
+
+/// Entries in a table below the first one.
+const ENTRIES: u64 = GRANULE / 8;
+
+/// Which leaves a world has.
+#[derive(Clone, Copy, Debug, PartialEq, Eq)]
+pub enum Leaves {
+    Mixed,
+    /// Mostly writable-clean.
+    Clean,
+}
+
+pub struct World {
+    /// All there is to lend.
+    pub memory: Vec<u8>,
+    /// How much of it is lent as a rule.
+    pub length: usize,
+    /// Regimes that are accepted over that much; the first is home.
+    pub regimes: Vec<Regime>,
+    /// One whose pool needs more than that.
+    pub far: Option<Regime>,
+    /// First addresses of pages.
+    pub pages: Vec<u64>,
+}
+
+pub fn set_bit(value: u64, place: u32, to: bool) -> u64 {
+    (value & !(1 << place)) | (u64::from(to) << place)
+}
+
+/// A leaf that most accesses can use.
+pub fn draw_usable_leaf(random: &mut Random, level: usize, output: u64, leaves: Leaves) -> u64 {
+    let leaf = draw_leaf(random, level, output);
+    if leaves == Leaves::Mixed && random.coin() {
+        return leaf;
+    }
+    let leaf = set_bit(leaf, AF, !random.once_in(4));
+    let leaf = set_bit(leaf, AP1, !random.once_in(4));
+    let leaf = set_bit(leaf, AP2, !random.once_in(4));
+    set_bit(leaf, DBM, !random.once_in(4))
+}
+
+/// The tables of one range: one for each level, and the way down them.
+struct Tree {
+    range: usize,
+    first: usize,
+    tables: [u64; 4],
+    trunk: [u64; 4],
+    leaves: Leaves,
+}
+
+impl Tree {
+    fn draw(random: &mut Random, scene: &mut Scene, range: usize, leaves: Leaves) -> Tree {
+        let first = usize::from(first_level(scene.regime.ranges[range].t));
+        let mut tree = Tree {
+            range,
+            first,
+            tables: [0; 4],
+            trunk: [0; 4],
+            leaves,
+        };
+        // A granule for each level; where there are too few, some serve two.
+        let granules = scene.granules();
+        let base = random.below(granules);
+        for level in first..=3 {
+            let number = (base + (level - first) as u64) % granules;
+            tree.tables[level] = scene.granule(number);
+            tree.trunk[level] = scene.draw_index(random, range, level);
+        }
+        scene.regime.ranges[range].root = tree.tables[first];
+        for level in first..3 {
+            tree.point(random, scene, level, tree.trunk[level], level + 1);
+        }
+        tree
+    }
+
+    /// Makes an entry a table descriptor for the table of another level.
+    fn point(&self, random: &mut Random, scene: &mut Scene, level: usize, index: u64, to: usize) {
+        let descriptor = draw_table(random, self.tables[to]);
+        scene.put(self.tables[level] + 8 * index, descriptor);
+    }
+
+    fn put_leaf(&self, random: &mut Random, scene: &mut Scene, level: usize, index: u64) {
+        let output = scene.draw_output(random);
+        let leaf = draw_usable_leaf(random, level, output, self.leaves);
+        scene.put(self.tables[level] + 8 * index, leaf);
+    }
+
+    /// The first address of a page, by its four indices.
+    fn page(&self, scene: &Scene, indices: &[u64; 4]) -> u64 {
+        let span = 64 - u32::from(scene.regime.ranges[self.range].t);
+        let mut address = 0;
+        for (level, index) in indices.iter().enumerate().skip(self.first) {
+            address |= index << lowest_index_bit(level as u8);
+        }
+        if self.range == 1 {
+            address |= u64::MAX << span;
+        }
+        address
+    }
+
+    /// The trunk with one index changed.
+    fn aside(&self, level: usize, index: u64) -> [u64; 4] {
+        let mut indices = self.trunk;
+        indices[level] = index;
+        indices
+    }
+
+    /// Leaves in the last table, some of them in one place.
+    fn lay_pages(&self, random: &mut Random, scene: &mut Scene, pages: &mut Vec<u64>) {
+        for step in [0, 64, 128, 64 * random.below(8), 32, 1, random.below(ENTRIES)] {
+            let index = (self.trunk[3] + step) % ENTRIES;
+            self.put_leaf(random, scene, 3, index);
+            pages.push(self.page(scene, &self.aside(3, index)));
+        }
+    }
+
+    /// Entries beside the trunk that lead to the same table: other pages,
+    /// same place, one descriptor.
+    fn lay_aliases(&self, random: &mut Random, scene: &mut Scene, pages: &mut Vec<u64>) {
+        for level in self.first..3 {
+            let index = scene.draw_index(random, self.range, level);
+            self.point(random, scene, level, index, level + 1);
+            let mut indices = self.aside(level, index);
+            pages.push(self.page(scene, &indices));
+            indices[3] = (indices[3] + 64) % ENTRIES;
+            pages.push(self.page(scene, &indices));
+        }
+    }
+
+    /// Blocks: many pages, one descriptor.
+    fn lay_blocks(&self, random: &mut Random, scene: &mut Scene, pages: &mut Vec<u64>) {
+        for level in self.first.max(1)..3 {
+            let index = scene.draw_index(random, self.range, level);
+            self.put_leaf(random, scene, level, index);
+            for step in [0, 64, 1] {
+                let mut indices = self.aside(level, index);
+                indices[3] = (indices[3] + step) % ENTRIES;
+                pages.push(self.page(scene, &indices));
+            }
+        }
+    }
+
+    /// An entry that points to its own table, so that tables are leaves too.
+    fn lay_loop(&self, random: &mut Random, scene: &mut Scene, pages: &mut Vec<u64>) {
+        let index = scene.draw_index(random, self.range, 2);
+        self.point(random, scene, 2, index, 2);
+        for last in [self.trunk[2], index] {
+            let mut indices = self.aside(2, index);
+            indices[3] = last;
+            pages.push(self.page(scene, &indices));
+        }
+    }
+}
+
+/// A pool, a home regime and memory behind the pool, before any tree.
+fn draw_scene(random: &mut Random, least: u64) -> Scene {
+    let mut scene = Scene::new();
+    let code = random.below(6) as u8;
+    let granules = draw_granules(random, least);
+    let before = random.pick(&[0, 0, 1, 2]) * GRANULE as usize;
+    let behind = 2 * GRANULE as usize + random.pick(&[0, 1, 8, 4095]);
+    let placement = random.pick(&[
+        Placement::Zero,
+        Placement::Inside,
+        Placement::Inside,
+        Placement::EndsAtLimit,
+    ]);
+    scene.draw_within(random, code, placement, granules, before, behind);
+    settle_home(random, &mut scene);
+    scene
+}
+
+/// HA and HD mostly on, ranges mostly enabled.
+fn settle_home(random: &mut Random, scene: &mut Scene) {
+    scene.regime.ha = !random.once_in(5);
+    scene.regime.hd = !random.once_in(5);
+    for range in &mut scene.regime.ranges {
+        range.disabled = random.once_in(16);
+    }
+}
+
+/// The other regimes, and how much is lent as a rule.
+fn finish(random: &mut Random, scene: Scene, mut pages: Vec<u64>) -> World {
+    let home = scene.regime;
+    let pool_end = home.pool.start + home.pool.length;
+    let spare = (scene.memory.len() - pool_end).min(GRANULE as usize - 1);
+    let some = random.below(spare as u64 + 1) as usize;
+    let length = pool_end + random.pick(&[0, spare, some]);
+    let mut regimes = vec![home];
+    for _ in 0..2 {
+        let other = vary(random, &home);
+        if refusal_of_regime(length, &other).is_none() {
+            regimes.push(other);
+        }
+    }
+    let mut far = home;
+    far.pool.length += GRANULE as usize;
+    let needs_more = refusal_of_regime(length, &far) == Some(1);
+    let fits_all = refusal_of_regime(scene.memory.len(), &far).is_none();
+
+    // The same lower bits above another range, or above none.
+    for _ in 0..2 {
+        let page = random.pick(&pages);
+        let t = home.ranges[usize::from(page >> 63 == 1)].t;
+        pages.push(page ^ (1 << random.between(64 - u64::from(t), 63)));
+    }
+    World {
+        memory: scene.memory,
+        length,
+        regimes,
+        far: (needs_more && fits_all).then_some(far),
+        pages,
+    }
+}
+
+/// A regime that differs from home in something.
+pub fn vary(random: &mut Random, home: &Regime) -> Regime {
+    let mut other = *home;
+    other.ha = random.coin();
+    other.hd = random.coin();
+    other.wxn = random.coin();
+    match random.below(8) {
+        0 => other.output_code = random.below(6) as u8,
+        1 => other.ranges.swap(0, 1),
+        2 => other.ranges[random.below(2) as usize].t = random.between(16, 39) as u8,
+        3 => other.ranges[random.below(2) as usize].disabled ^= true,
+        4 => other.pool.address ^= GRANULE,
+        5 => other.pool.length -= GRANULE as usize,
+        6 => {
+            let shift = GRANULE * random.below(3);
+            other.pool.start += shift as usize;
+            other.pool.length = other.pool.length.saturating_sub(shift as usize);
+            other.pool.address += random.pick(&[0, shift]);
+        }
+        _ => {
+            for byte in &mut other.attributes {
+                *byte = if random.coin() {
+                    draw_device(random)
+                } else {
+                    draw_normal(random)
+                };
+            }
+        }
+    }
+    other
+}
+
+impl World {
+    /// Planned trees, one for both ranges or one for each.
+    pub fn planned(random: &mut Random, leaves: Leaves) -> World {
+        let mut scene = draw_scene(random, 1);
+        let mut pages = Vec::new();
+        let both = random.coin();
+        for range in 0..2 {
+            if range == 1 && both {
+                scene.regime.ranges[1] = scene.regime.ranges[0];
+                let span = 64 - u32::from(scene.regime.ranges[0].t);
+                let upper = |page: &u64| page | u64::MAX << span;
+                let mirrored: Vec<u64> = pages.iter().map(upper).collect();
+                pages.extend(mirrored);
+                break;
+            }
+            let tree = Tree::draw(random, &mut scene, range, leaves);
+            tree.lay_aliases(random, &mut scene, &mut pages);
+            tree.lay_blocks(random, &mut scene, &mut pages);
+            tree.lay_loop(random, &mut scene, &mut pages);
+            tree.lay_pages(random, &mut scene, &mut pages);
+            // Once more, as the rest may have fallen on it.
+            for level in tree.first..3 {
+                tree.point(random, &mut scene, level, tree.trunk[level], level + 1);
+            }
+        }
+        finish(random, scene, pages)
+    }
+
+    /// Many pages over all places, in one table or one block.
+    pub fn wide(random: &mut Random) -> World {
+        let mut scene = draw_scene(random, 4);
+        let range = random.below(2) as usize;
+        scene.regime.ranges[range].disabled = false;
+        let tree = Tree::draw(random, &mut scene, range, Leaves::Mixed);
+        let mut pages = Vec::new();
+        let block = random.coin();
+        if block {
+            tree.put_leaf(random, &mut scene, 2, tree.trunk[2]);
+        }
+        for _ in 0..96 {
+            let index = random.below(ENTRIES);
+            if !block {
+                tree.put_leaf(random, &mut scene, 3, index);
+            }
+            pages.push(tree.page(&scene, &tree.aside(3, index)));
+        }
+        finish(random, scene, pages)
+    }
+
+    /// Likely descriptors without a plan, and pages near each other.
+    pub fn unplanned(random: &mut Random) -> World {
+        let mut scene = draw_scene(random, 2);
+        if random.once_in(8) {
+            scene.fill_random(random);
+        }
+        for range in &mut scene.regime.ranges {
+            range.root = scene.regime.pool.address;
+        }
+        let mut pages = Vec::new();
+        for _ in 0..8 {
+            let range = random.below(2) as usize;
+            let span = 64 - u32::from(scene.regime.ranges[range].t);
+            let upper = if range == 1 { u64::MAX << span } else { 0 };
+            let page = random.bits() & ((1 << span) - 1) & !(GRANULE - 1);
+            pages.push(upper | page);
+            pages.push(upper | page ^ (64 << random.below(6)) * GRANULE);
+        }
+        finish(random, scene, pages)
+    }
+
+    /// A planned world in a memory as long as any, and one byte more.
+    pub fn long(random: &mut Random) -> World {
+        let mut world = World::planned(random, Leaves::Mixed);
+        world.memory.resize(MEMORY_LIMIT + 1, 0x5A);
+        world.length = MEMORY_LIMIT - random.pick(&[0, 1, 8]);
+        world.far = None;
+        world
+    }
+}
+
+/// A descriptor that leads to an address: its type and other bits stay.
+pub fn lead_to(descriptor: u64, address: u64) -> u64 {
+    (descriptor & !ADDRESS_FIELD) | (address & ADDRESS_FIELD)
+}

@@ -1,0 +1,124 @@
+-- A list of a session's calls, and the words of rule 3, from the calls and their replies alone (01, "The session").
+use Prim.Native.Nat.{ℕ, _≤_}
+use mathlib.Core.Bool.{Bool, true, false, _&&_}
+use mathlib.Core.List.{List, [], _∷_}
+use mathlib.Core.Option.{Option, none, some}
+use lib.Dec.{leb, eqb}
+use Rattle.descriptor.specs.Bits.{pick}
+use Rattle.vmsa.specs.Answers.{cacheableIn}
+use Rattle.vmsa.specs.declared.Regime.{Regime}
+use Rattle.vmsa.specs.declared.Access.{Access}
+use Rattle.session.specs.Replies.{Reply, done, refused, answered}
+use Rattle.session.specs.Model.{Walker, Session, fresh, Stepped, Call, setRegime, access, store, dropAll, call, entryOf}
+
+-- a call, what it handed back, and the memory that it found and left
+pub record Event : Type 0 where
+  pub made : Call
+  pub reply : Reply
+  pub found : List ℕ
+  pub left : List ℕ
+
+-- a session and its memory after a list of calls, the last call first
+pub record World : Type 0 where
+  pub session : Session
+  pub memory : List ℕ
+  pub past : List Event
+
+-- the fresh session over a lent memory
+abbrev pub start : List ℕ → World
+start m = record { session = fresh; memory = m; past = [] }
+
+-- each call gets the session that the last one handed back and the memory as it was left
+abbrev pub after : World → Call → Stepped → World
+after w c r = record { session = r .session; memory = r .memory; past = record { made = c; reply = r .reply; found = w .memory; left = r .memory } ∷ w .past }
+
+abbrev pub next : Walker → World → Call → World
+next W w c = after w c (call W (w .session) (w .memory) c)
+
+unfoldable pub run : Walker → World → List Call → World
+run W w [] = w
+run W w (c ∷ cs) = run W (next W w c) cs
+
+-- ---- the words of rule 3
+
+abbrev pub isDone : Reply → Bool
+isDone done = true
+isDone (refused n) = false
+isDone (answered o n) = false
+
+abbrev pub regimeAfter : Call → Reply → Option Regime → Option Regime
+regimeAfter (setRegime R) reply old = pick (isDone reply) (some R) old
+regimeAfter (access a) reply old = old
+regimeAfter (store address value) reply old = old
+regimeAfter dropAll reply old = old
+
+-- the regime last accepted
+abbrev pub regimeOf : List Event → Option Regime
+regimeOf [] = none
+regimeOf (e ∷ before) = regimeAfter (e .made) (e .reply) (regimeOf before)
+
+-- an emptying is an accepted set regime or a drop all
+abbrev pub empties : Call → Reply → Bool
+empties (setRegime R) reply = isDone reply
+empties (access a) reply = false
+empties (store address value) reply = false
+empties dropAll reply = true
+
+-- a call that asks for a drop: an accepted store
+abbrev pub asksDrop : Event → Call → Bool
+asksDrop e (setRegime R) = false
+asksDrop e (access a) = false
+asksDrop e (store address value) = isDone (e .reply)
+asksDrop e dropAll = false
+
+-- between here and every accepted store before there is an emptying
+abbrev pub settled : List Event → Bool
+settled [] = true
+settled (e ∷ before) = pick (empties (e .made) (e .reply)) true (pick (asksDrop e (e .made)) false (settled before))
+
+-- the customer's word: a drop all between here and every accepted store before
+abbrev pub isDrop : Call → Bool
+isDrop (setRegime R) = false
+isDrop (access a) = false
+isDrop (store address value) = false
+isDrop dropAll = true
+
+abbrev pub dropped : List Event → Bool
+dropped [] = true
+dropped (e ∷ before) = pick (isDrop (e .made)) true (pick (asksDrop e (e .made)) false (dropped before))
+
+-- an earlier access: its regime, its page, and the memory as it left it
+pub record Moment : Type 0 where
+  pub regime : Regime
+  pub page : ℕ
+  pub left : List ℕ
+
+-- counts that count: at least one read, or any
+abbrev pub counted : ℕ → Bool
+counted n = leb 1 n
+
+abbrev pub anyCount : ℕ → Bool
+anyCount n = true
+
+abbrev pub momentIn : Walker → Option Regime → Access → List ℕ → Option Moment
+momentIn W none a m = none
+momentIn W (some R) a m = some (record { regime = R; page = W .page R a; left = m })
+
+-- an access is rememberable when its answer says "may be remembered"; one whose count passes the test
+abbrev pub momentOf : Walker → (ℕ → Bool) → Option Regime → Call → Reply → List ℕ → Option Moment
+momentOf W ok o (setRegime R) reply m = none
+momentOf W ok o (access a) done m = none
+momentOf W ok o (access a) (refused n) m = none
+momentOf W ok o (access a) (answered x n) m = pick (cacheableIn x && ok n) (momentIn W o a m) none
+momentOf W ok o (store address value) reply m = none
+momentOf W ok o dropAll reply m = none
+
+abbrev pub orEarlier : ℕ → Option Moment → Option Moment → Option Moment
+orEarlier i none old = old
+orEarlier i (some t) old = pick (eqb (entryOf (t .page)) i) (some t) old
+
+-- the last such access at entry i since the last emptying
+abbrev pub latest : Walker → (ℕ → Bool) → List Event → ℕ → Option Moment
+latest W ok [] i = none
+latest W ok (e ∷ before) i =
+    pick (empties (e .made) (e .reply)) none (orEarlier i (momentOf W ok (regimeOf before) (e .made) (e .reply) (e .left)) (latest W ok before i))

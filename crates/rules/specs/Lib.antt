@@ -1,0 +1,3 @@
+pub mod Rule1
+pub mod Steps
+pub mod Rule2

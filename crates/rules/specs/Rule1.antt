@@ -1,0 +1,40 @@
+-- Rule 1 of the letter for the plain walk, over any bytes, regime and access.
+-- That every call gets an answer and ends is the code's contract: it asks nothing of its caller, and its outcome equals `walk`.
+use Prim.Native.Nat.{ℕ, _+_, _<_, _≤_}
+use mathlib.Core.Bool.{Bool, true, false}
+use mathlib.Core.List.{List, _∷_}
+use mathlib.Core.Logic.{_⊎_, _↔_, _≢_}
+use mathlib.Core.Path.{_≡_}
+use lib.ListN.{length, getD}
+use Rattle.descriptor.specs.Bytes.{Bytes}
+use Rattle.vmsa.specs.Answers.{refused, numberOf}
+use Rattle.vmsa.specs.declared.Regime.{Regime}
+use Rattle.vmsa.specs.declared.Access.{Access}
+use Rattle.vmsa.specs.declared.Refusal.{Refusal}
+use Rattle.checks.specs.declared.Checked.the-variants.{Accepted}
+use Rattle.checks.specs.Order.{walkRows, walkCheck}
+use Rattle.walk.specs.Walk.{walk, poolOf}
+
+-- the first row of a table that applies
+pub data FirstRow : List (Bool × Refusal) → Refusal → Type 0 where
+  here : {x : Refusal} {rows : List (Bool × Refusal)} → FirstRow ((true, x) ∷ rows) x
+  later : {x y : Refusal} {rows : List (Bool × Refusal)} → FirstRow rows x → FirstRow ((false, y) ∷ rows) x
+
+pub record Rule1 : Type 0 where
+  -- a refusal is given exactly where the documents' table says, with the number of the first row that applies
+  pub refusals : (r : Regime) (a : Access) (m : List ℕ) (k : ℕ)
+      → (walk r a m .result ≡ refused k) ↔ ((x : Refusal) × FirstRow (walkRows (length m) r a) x × (numberOf x ≡ k))
+  -- and is not given exactly where the checks of that table accept
+  pub accepted : (r : Regime) (a : Access) (m : List ℕ) → (walkCheck (length m) r a ≡ Accepted) ↔ ((k : ℕ) → walk r a m .result ≢ refused k)
+  -- a refusal changes no memory (a plain walk has no session)
+  pub kept : (r : Regime) (a : Access) (m : List ℕ) (k : ℕ) → walk r a m .result ≡ refused k → walk r a m .bytes ≡ m
+  -- no byte outside the guest's pool is changed, whatever the answer: the memory keeps its length,
+  pub long : (r : Regime) (a : Access) (m : List ℕ) → length (walk r a m .bytes) ≡ length m
+  -- each byte before the pool's start and each from its end on,
+  pub outside : (r : Regime) (a : Access) (m : List ℕ) (i : ℕ) → (i < r .pool .start) ⊎ (r .pool .start + r .pool .length ≤ i)
+      → getD (walk r a m .bytes) i 0 ≡ getD m i 0
+  -- and bytes stay bytes
+  pub bytes : (r : Regime) (a : Access) (m : List ℕ) → Bytes m → Bytes (walk r a m .bytes)
+  -- no byte outside the guest's pool has a say: two memories of one length with the same pool get the same answer and the same pool afterwards
+  pub unheard : (r : Regime) (a : Access) (m n : List ℕ) → length m ≡ length n → poolOf (r .pool) m ≡ poolOf (r .pool) n
+      → (walk r a m .result ≡ walk r a n .result) × (poolOf (r .pool) (walk r a m .bytes) ≡ poolOf (r .pool) (walk r a n .bytes))

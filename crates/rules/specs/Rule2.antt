@@ -1,0 +1,120 @@
+-- Rule 2 of the letter: what a plain walk answers and changes where it is not refused, that is, where its checks accept (rule 1).
+use Prim.Native.Nat.{ℕ, _+_, _-_, _%_, _<_, _≤_}
+use mathlib.Core.Bool.{Bool, true, false}
+use mathlib.Core.List.{List}
+use mathlib.Core.Logic.{_⊎_, _↔_, _≢_}
+use mathlib.Core.Path.{_≡_}
+use lib.ListN.{length, getD}
+use Rattle.descriptor.specs.Bytes.{Bytes, desc}
+use Rattle.descriptor.specs.Bits.{bit}
+use Rattle.vmsa.specs.Limits.{pageBits}
+use Rattle.vmsa.specs.Geometry.{levelOf, span, cut, outputLimit}
+use Rattle.vmsa.specs.Kinds.{isProbe, writes}
+use Rattle.vmsa.specs.Attributes.{attribute as attributeByte}
+use Rattle.vmsa.specs.Fields.{attributeIndex, shareability as shareabilityOf, nonglobal as nonglobalOf, af, ap2, dbm}
+use Rattle.vmsa.specs.Answers.{Faulted, success, fault as faulted, codeOf}
+use Rattle.vmsa.specs.declared.Regime.{Regime}
+use Rattle.vmsa.specs.declared.Access.{Access}
+use Rattle.vmsa.specs.declared.Success.{Success}
+use Rattle.vmsa.specs.declared.FaultKind.{FaultKind}
+use Rattle.vmsa.specs.declared.FaultKind.the-variants.{Permission, Alignment}
+use Rattle.checks.specs.declared.Checked.the-variants.{Accepted}
+use Rattle.checks.specs.Order.{walkCheck}
+use Rattle.lookup.specs.Trace.{Trace, leaf}
+use Rattle.walk.specs.Walk.{walk, traced, poolOf}
+use Rattle.rules.specs.Steps.{Step, AllPass, FirstFails, walkSteps}
+
+-- the steps of an access, and its trace: the list of descriptor addresses visited, and the end, a fault or a leaf
+abbrev pub stepsOf : Regime → Access → List ℕ → List Step
+stepsOf r a m = walkSteps r a (poolOf (r .pool) m)
+
+abbrev pub traceOf : Regime → Access → List ℕ → Trace
+traceOf r a m = traced r (poolOf (r .pool) m) (a .address .0)
+
+-- the one leaf of an access, where its trace ends in one: the address and value of its descriptor, and the levels left below it
+pub record LeafOf (r : Regime) (a : Access) (m : List ℕ) : Type 0 where
+  pub address : ℕ
+  pub value : ℕ
+  pub left : ℕ
+  pub reached : traceOf r a m .end ≡ leaf address value left
+
+-- where its descriptor lies in the memory: at start + address - pool address
+abbrev pub offset : {r : Regime} {a : Access} {m : List ℕ} → LeafOf r a m → ℕ
+offset {r} l = r .pool .start + (l .address - r .pool .address .0)
+
+-- the value of its descriptor after the walk
+abbrev pub valueAfter : {r : Regime} {a : Access} {m : List ℕ} → LeafOf r a m → ℕ
+valueAfter {r} {a} {m} l = desc (walk r a m .bytes) (offset l)
+
+-- the leaf's descriptor lies wholly in the pool, at a multiple of 8, and is what the walk read
+pub record Placed {r : Regime} {a : Access} {m : List ℕ} (l : LeafOf r a m) : Type 0 where
+  pub least : r .pool .start ≤ offset l
+  pub most : offset l + 8 ≤ r .pool .start + r .pool .length
+  pub aligned : offset l % 8 ≡ 0
+  pub value : desc m (offset l) ≡ l .value
+
+-- the right address and attributes: the leaf's address and the offset in its span, and the leaf's fields
+pub record Right {r : Regime} {a : Access} {m : List ℕ} (l : LeafOf r a m) (s : Success) : Type 0 where
+  pub output : s .output .0 ≡ cut (l .value) (span pageBits (l .left)) + a .address .0 % span pageBits (l .left)
+  pub attribute : s .attribute ≡ attributeByte (r .attributes) (attributeIndex (l .value))
+  pub shareability : s .shareability ≡ shareabilityOf (l .value)
+  pub nonglobal : s .nonglobal ≡ nonglobalOf (l .value)
+  pub level : s .level ≡ levelOf (l .left)
+
+-- bit 10 (AF) from v to w, and whether the answer says that it was set: unchanged, or from 0 to 1 with HA on, and by no probe
+pub data FlagUpdate (r : Regime) (a : Access) (v w : ℕ) : Bool → Type 0 where
+  kept : bit 10 w ≡ bit 10 v → FlagUpdate r a v w false
+  set : r .ha ≡ true → isProbe (a .kind) ≡ false → bit 10 v ≡ false → bit 10 w ≡ true → FlagUpdate r a v w true
+
+-- bit 7 (AP[2]) from v to w, and whether the answer says that it was cleared: unchanged, or from 1 to 0 with HA, HD and DBM 1, by a write or update
+pub data DirtyUpdate (r : Regime) (a : Access) (v w : ℕ) : Bool → Type 0 where
+  kept : bit 7 w ≡ bit 7 v → DirtyUpdate r a v w false
+  cleared : r .ha ≡ true → r .hd ≡ true → dbm v ≡ true → writes (a .kind) ≡ true → bit 7 v ≡ true → bit 7 w ≡ false → DirtyUpdate r a v w true
+
+-- what a success changes
+pub record Marked {r : Regime} {a : Access} {m : List ℕ} (l : LeafOf r a m) (s : Success) : Type 0 where
+  -- it changes no byte but those of the one leaf descriptor,
+  pub bytes : (i : ℕ) → (i < offset l) ⊎ (offset l + 8 ≤ i) → getD (walk r a m .bytes) i 0 ≡ getD m i 0
+  -- and of that no bit but 10 and 7,
+  pub bits : (n : ℕ) → n ≢ 10 → n ≢ 7 → bit n (valueAfter l) ≡ bit n (l .value)
+  -- those only where the updates are switched on; the answer says which were made
+  pub flag : FlagUpdate r a (l .value) (valueAfter l) (s .accessed)
+  pub dirty : DirtyUpdate r a (l .value) (valueAfter l) (s .dirtied)
+  -- AF is 1 afterwards (01: with HA on it becomes 1, with HA off step 6 asks it), but a probe changes nothing
+  pub accessed : isProbe (a .kind) ≡ false → af (valueAfter l) ≡ true
+  pub probe : isProbe (a .kind) ≡ true → walk r a m .bytes ≡ m
+  -- a success may be remembered where AF is 1 afterwards (01)
+  pub cacheable : s .cacheable ≡ af (valueAfter l)
+
+pub record Rule2 : Type 0 where
+  -- the walk permits an access or one step is the first to fail: there is no third case
+  pub decided : (r : Regime) (a : Access) (m : List ℕ) → AllPass (stepsOf r a m) ⊎ ((k : FaultKind) × (l : ℕ) × FirstFails (stepsOf r a m) k l)
+  -- an access that is not refused succeeds exactly when the walk permits it: when no step fails
+  pub succeeds : (r : Regime) (a : Access) (m : List ℕ) → walkCheck (length m) r a ≡ Accepted
+      → ((s : Success) × (walk r a m .result ≡ success s)) ↔ AllPass (stepsOf r a m)
+  -- otherwise it gets the fault that is ranked first, of the first step that fails, and all memory, the pool too, is untouched
+  pub faults : (r : Regime) (a : Access) (m : List ℕ) → walkCheck (length m) r a ≡ Accepted → (k : FaultKind) (l : ℕ) → FirstFails (stepsOf r a m) k l
+      → (f : Faulted) × (walk r a m .result ≡ faulted f) × (f .code ≡ codeOf k l) × (f .level ≡ l) × (walk r a m .bytes ≡ m)
+  -- a success has its one leaf,
+  pub leaf : (r : Regime) (a : Access) (m : List ℕ) (s : Success) → walk r a m .result ≡ success s → LeafOf r a m
+  -- and a leaf's descriptor lies in the guest's pool
+  pub placed : (r : Regime) (a : Access) (m : List ℕ) → walkCheck (length m) r a ≡ Accepted → (l : LeafOf r a m) → Placed l
+  -- a success gives the right address and attributes
+  pub right : (r : Regime) (a : Access) (m : List ℕ) (s : Success) → walk r a m .result ≡ success s → (l : LeafOf r a m) → Right l s
+  -- it changes at most bits 10 and 7 of the one leaf descriptor, only where those updates are switched on
+  pub marked : (r : Regime) (a : Access) (m : List ℕ) (s : Success) → walk r a m .result ≡ success s → Bytes m → (l : LeafOf r a m) → Marked l s
+  -- a written page ends writable with its Access flag set
+  pub written : (r : Regime) (a : Access) (m : List ℕ) (s : Success) → walk r a m .result ≡ success s → Bytes m → writes (a .kind) ≡ true
+      → (l : LeafOf r a m) → (af (valueAfter l) ≡ true) × (ap2 (valueAfter l) ≡ false)
+  -- every output address is below 2 to the output size (01)
+  pub below : (r : Regime) (a : Access) (m : List ℕ) (s : Success) → walk r a m .result ≡ success s → s .output .0 < outputLimit (r .output)
+  -- the count of reads is the length of the list of descriptor addresses visited, and at most 4 (01): for a success,
+  pub successReads : (r : Regime) (a : Access) (m : List ℕ) (s : Success) → walk r a m .result ≡ success s
+      → (s .reads ≡ length (traceOf r a m .visited)) × (s .reads ≤ 4)
+  -- and for a fault
+  pub faultReads : (r : Regime) (a : Access) (m : List ℕ) (f : Faulted) → walk r a m .result ≡ faulted f
+      → (f .reads ≡ length (traceOf r a m .visited)) × (f .reads ≤ 4)
+  -- a fault may be remembered exactly where a leaf with AF 1 was reached and step 7 or 8 failed (01)
+  pub faultCacheable : (r : Regime) (a : Access) (m : List ℕ) (f : Faulted) → walk r a m .result ≡ faulted f
+      → (f .cacheable ≡ true)
+      ↔ ((l : LeafOf r a m) × (af (l .value) ≡ true) × (FirstFails (stepsOf r a m) Alignment (levelOf (l .left)) ⊎ FirstFails (stepsOf r a m) Permission (levelOf (l .left))))
