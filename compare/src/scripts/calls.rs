@@ -6,10 +6,10 @@ use crate::boundary::Spelling;
 use crate::cases::scene::{draw_access, draw_access_of, draw_table};
 use crate::random::Random;
 use crate::reference::{
-    find_leaf, offset_in_memory, output_limit, read_descriptor, row_1, Access, Kind, Regime, AF,
+    find_leaf, is_device, offset_in_memory, output_limit, read_descriptor, row_1, writable_clean, Access, Kind, Regime, AF,
     AP1, AP2, DBM, GRANULE, PHYSICAL_LIMIT, POOL_LIMIT, PXN, UXN,
 };
-use crate::session::{Call, Session};
+use crate::session::{Call, Held, Session};
 
 /// How often each sort of call comes.
 #[derive(Clone, Copy)]
@@ -35,6 +35,14 @@ const EVEN: Mood = Mood {
     odd_length: 40,
 };
 
+/// Calls that are to come next, on one page.
+#[derive(Clone, Copy)]
+enum Planned {
+    Store(u64),
+    Write(u64),
+    Look(u64),
+}
+
 pub struct Script {
     pub family: &'static str,
     pub world: World,
@@ -44,6 +52,8 @@ pub struct Script {
     hot: Vec<u64>,
     /// Descriptors that were stored over, and what they were.
     undone: Vec<(u64, u64)>,
+    /// The last one comes first.
+    plan: Vec<Planned>,
 }
 
 impl Script {
@@ -55,7 +65,11 @@ impl Script {
             _ if number % 500 == 7 => ("long", EVEN, World::long(&mut random)),
             0..=3 => ("trees", EVEN, mixed(&mut random)),
             4..=7 => {
-                let dirty = Mood { writes: 4, ..EVEN };
+                let dirty = Mood {
+                    regime: 1,
+                    writes: 0,
+                    ..EVEN
+                };
                 ("dirty", dirty, clean(&mut random))
             }
             8 | 9 => {
@@ -78,7 +92,7 @@ impl Script {
                 // No store, so that the first half speaks all the way.
                 let quiet = Mood {
                     store: 0,
-                    writes: 3,
+                    writes: 0,
                     ..EVEN
                 };
                 ("quiet", quiet, clean(&mut random))
@@ -94,8 +108,12 @@ impl Script {
             }
             _ => ("noise", EVEN, World::unplanned(&mut random)),
         };
-        let count = if family == "wide" { 40 } else { 5 };
-        let hot = (0..count).map(|_| random.pick(&world.pages)).collect();
+        // Pages that stand together have a table or a leaf in common.
+        let pages = &world.pages;
+        let (run, more) = if family == "wide" { (40, 0) } else { (4, 4) };
+        let start = random.below(pages.len() as u64 - run + 1) as usize;
+        let mut hot = pages[start..start + run as usize].to_vec();
+        hot.extend((0..more).map(|_| random.pick(pages)));
         Script {
             family,
             world,
@@ -103,6 +121,7 @@ impl Script {
             mood,
             hot,
             undone: Vec::new(),
+            plan: Vec::new(),
         }
     }
 
@@ -148,6 +167,9 @@ impl Script {
         if session.regime.is_none() && self.random.coin() {
             return self.draw_regime();
         }
+        if let Some(call) = self.follow_plan(session, memory) {
+            return (call, None);
+        }
         let mood = self.mood;
         let mut left = self.random.below(100);
         let mut turn = |share: u64| {
@@ -164,22 +186,58 @@ impl Script {
         } else if turn(mood.bad_regime) {
             (Call::SetRegime(self.draw_bad_regime()), None)
         } else if turn(mood.bad_access) {
-            (Call::Access(self.draw_bad_access()), None)
+            (Call::Access(self.draw_bad_access(session)), None)
         } else {
-            (Call::Access(self.draw_good_access()), None)
+            (Call::Access(self.draw_good_access(session)), None)
         }
     }
 
-    fn draw_page(&mut self) -> u64 {
-        if self.random.once_in(10) {
-            self.random.pick(&self.world.pages)
-        } else {
-            self.random.pick(&self.hot)
+    /// Where a page is held with a dirty mark to come, at times: its tables
+    /// are changed, or a page with the same leaf is written; then it is
+    /// written itself, and looked at.
+    fn follow_plan(&mut self, session: &Session, memory: &[u8]) -> Option<Call> {
+        let regime = session.regime?;
+        if self.plan.is_empty() && self.random.once_in(6) {
+            let places = session.places.iter().flatten().copied();
+            let clean = places.filter(|held| writable_clean(&regime, held.leaf.descriptor));
+            let clean: Vec<Held> = clean.collect();
+            if !clean.is_empty() {
+                let held = self.random.pick(&clean);
+                let page = held.page * GRANULE;
+                let twin = |other: &&Held| other.leaf == held.leaf && other.page != held.page;
+                self.plan = vec![Planned::Look(page), Planned::Write(page)];
+                match clean.iter().find(twin) {
+                    Some(twin) => self.plan.push(Planned::Write(twin.page * GRANULE)),
+                    None if self.mood.store == 0 || self.random.once_in(4) => {}
+                    None => self.plan.push(Planned::Store(page)),
+                }
+            }
+        }
+        let random = &mut self.random;
+        match self.plan.pop()? {
+            Planned::Store(page) => Some(self.draw_store_for(page, session, memory)),
+            Planned::Write(page) => {
+                let kind = random.pick(&[Kind::Write, Kind::Update]);
+                let mut access = draw_access_of(random, page, kind);
+                access.el0 = random.once_in(4);
+                Some(Call::Access(access))
+            }
+            Planned::Look(page) => Some(Call::Access(draw_access(random, page))),
         }
     }
 
-    fn draw_good_access(&mut self) -> Access {
-        let page = self.draw_page();
+    /// A held page, a hot one, or any.
+    fn draw_page(&mut self, session: &Session) -> u64 {
+        let held: Vec<u64> = session.places.iter().flatten().map(|h| h.page).collect();
+        match self.random.below(12) {
+            0..=3 if !held.is_empty() => self.random.pick(&held) * GRANULE,
+            11 => self.random.pick(&self.world.pages),
+            _ => self.random.pick(&self.hot),
+        }
+    }
+
+    fn draw_good_access(&mut self, session: &Session) -> Access {
+        let page = self.draw_page(session);
         if self.random.below(8) < self.mood.writes {
             let kind = self.random.pick(&[Kind::Write, Kind::Update]);
             draw_access_of(&mut self.random, page, kind)
@@ -189,8 +247,8 @@ impl Script {
     }
 
     /// Refused with 6 or 7.
-    fn draw_bad_access(&mut self) -> Access {
-        let mut access = self.draw_good_access();
+    fn draw_bad_access(&mut self, session: &Session) -> Access {
+        let mut access = self.draw_good_access(session);
         let random = &mut self.random;
         match random.below(5) {
             0 => access.size = random.pick(&[0, 3, 5, 17, 32, 1 << 32, u64::MAX]),
@@ -266,12 +324,16 @@ impl Script {
         regime
     }
 
-    /// Mostly into a descriptor on the way to a hot page.
     fn draw_store(&mut self, session: &Session, memory: &[u8]) -> Call {
+        let page = self.draw_page(session);
+        self.draw_store_for(page, session, memory)
+    }
+
+    /// Mostly into a descriptor on the way to a page.
+    fn draw_store_for(&mut self, page: u64, session: &Session, memory: &[u8]) -> Call {
         let regime = session.regime.unwrap_or(self.world.regimes[0]);
         let pool = regime.pool;
         let fits = pool.start + pool.length <= memory.len();
-        let page = self.draw_page();
         let mut visited = Vec::with_capacity(4);
         if fits {
             let _ = find_leaf(memory, &regime, page, &mut visited);
@@ -326,9 +388,11 @@ impl Script {
     fn twist(&mut self, regime: &Regime, old: u64) -> u64 {
         let random = &mut self.random;
         let limit = output_limit(regime.output_code);
-        let granule = regime.pool.address + GRANULE * random.below(regime.pool.length as u64 / GRANULE);
+        let granules = regime.pool.length as u64 / GRANULE;
+        let granule = regime.pool.address + GRANULE * random.below(granules);
         let output = random.below(limit);
-        match random.below(24) {
+        let device = regime.attributes.iter().position(|&byte| is_device(byte));
+        match random.below(28) {
             0 | 1 => set_bit(old, AF, true),
             2 | 3 => set_bit(old, AF, false),
             4 | 5 => set_bit(old, AP2, false),
@@ -347,6 +411,13 @@ impl Script {
             20 => draw_usable_leaf(random, 2, output, Leaves::Clean),
             21 => draw_table(random, granule),
             22 => 0,
+            // Clean again.
+            23 | 24 => set_bit(set_bit(old, AP2, true), DBM, true),
+            // Device, and perhaps not accessed.
+            25 | 26 => {
+                let index = device.unwrap_or(0) as u64;
+                set_bit(old & !(7 << 2) | index << 2, AF, random.coin())
+            }
             _ => random.bits(),
         }
     }

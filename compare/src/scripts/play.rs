@@ -139,7 +139,8 @@ impl<'a, S: Subject> Play<'a, S> {
             _ => script.world.length,
         };
         for bytes in Bytes::ALL {
-            let memory = bytes.fill(&mut script.random, &self.memory);
+            let home = &script.world.regimes[0];
+            let memory = bytes.fill(&mut script.random, &self.memory, home);
             let mut table = Table::new(&memory, self.arena.start - MARGIN);
             for &page in &pages {
                 for kind in Kind::ALL {

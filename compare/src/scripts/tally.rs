@@ -1,12 +1,13 @@
 //! What the scripts met. Everything that can occur must be met, and nothing
 //! else may be.
 
-use crate::boundary::{CAnswer, Reply, FAULT, REFUSED, SUCCESS};
+use crate::boundary::{plain_answer, CAnswer, Reply, FAULT, REFUSED, SUCCESS};
+use crate::cases::scene::Scene;
 use crate::counts::{report_families, Countable, Counts};
 use crate::random::Random;
 use crate::reference::{
-    bit, offset_in_memory, read_descriptor, row_1, walk, Access, Answer, FaultKind, Kind, Regime,
-    Walk, AF, AP2, PHYSICAL_LIMIT,
+    bit, offset_in_memory, read_descriptor, walk, writable_clean, Access, Answer, FaultKind, Kind,
+    Regime, Walk, AF, AP2, PHYSICAL_LIMIT,
 };
 use crate::rule3::{Checked, Class, Event, History};
 use crate::session::{page_of, place_of, Call, Session, Way, PLACES};
@@ -125,18 +126,19 @@ pub enum Bytes {
 impl Bytes {
     pub const ALL: [Bytes; 3] = [Bytes::Current, Bytes::Zeros, Bytes::Noise];
 
-    pub fn fill(self, random: &mut Random, current: &[u8]) -> Vec<u8> {
-        let mut memory = current.to_vec();
+    /// A memory of the same length; noise may look like tables.
+    pub fn fill(self, random: &mut Random, current: &[u8], regime: &Regime) -> Vec<u8> {
+        let mut scene = Scene {
+            memory: current.to_vec(),
+            regime: *regime,
+        };
         match self {
             Bytes::Current => {}
-            Bytes::Zeros => memory.fill(0),
-            Bytes::Noise => {
-                for bytes in memory.chunks_mut(8) {
-                    bytes.copy_from_slice(&random.bits().to_le_bytes()[..bytes.len()]);
-                }
-            }
+            Bytes::Zeros => scene.memory.fill(0),
+            Bytes::Noise if random.coin() => scene.fill_random(random),
+            Bytes::Noise => scene.fill_likely(random),
         }
-        memory
+        scene.memory
     }
 }
 
@@ -611,12 +613,7 @@ impl Tally {
 
         let Some(regime) = session.regime else { return };
         let held = session.places[place_of(page)];
-        let clean = held.is_some_and(|held| {
-            bit(held.leaf.descriptor, AP2)
-                && bit(held.leaf.descriptor, crate::reference::DBM)
-                && regime.ha
-                && regime.hd
-        });
+        let clean = held.is_some_and(|held| writable_clean(&regime, held.leaf.descriptor));
         if clean && access.kind.changes_data() && answer.tag == FAULT {
             self.meet(F::Odd(Odd::CleanFault));
         }
@@ -625,7 +622,7 @@ impl Tally {
         }
         let event = &events[at];
         let walk = plain_walk(&history.found(event)[..event.lent], &regime, access);
-        let now = crate::boundary::plain_answer(&walk.answer);
+        let now = plain_answer(&walk.answer);
         if (CAnswer { reads: 0, ..now }) != *answer {
             let end = match walk.answer {
                 Answer::Fault(fault) => End::Fault(fault.stop.kind),
@@ -706,6 +703,5 @@ fn read_of(page: u64) -> Access {
 
 /// The plain walk on a copy of the memory.
 fn plain_walk(memory: &[u8], regime: &Regime, access: &Access) -> Walk {
-    debug_assert!(!row_1(memory.len(), &regime.pool));
     walk(&mut memory.to_vec(), regime, access)
 }

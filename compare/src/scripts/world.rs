@@ -118,7 +118,8 @@ impl Tree {
 
     /// Leaves in the last table, some of them in one place.
     fn lay_pages(&self, random: &mut Random, scene: &mut Scene, pages: &mut Vec<u64>) {
-        for step in [0, 64, 128, 64 * random.below(8), 32, 1, random.below(ENTRIES)] {
+        let far = random.below(ENTRIES);
+        for step in [0, 64, 128, 1, 2, 3, 32, 33, 34, far, far + 1] {
             let index = (self.trunk[3] + step) % ENTRIES;
             self.put_leaf(random, scene, 3, index);
             pages.push(self.page(scene, &self.aside(3, index)));
@@ -143,7 +144,7 @@ impl Tree {
         for level in self.first.max(1)..3 {
             let index = scene.draw_index(random, self.range, level);
             self.put_leaf(random, scene, level, index);
-            for step in [0, 64, 1] {
+            for step in [0, 1, 2, 64] {
                 let mut indices = self.aside(level, index);
                 indices[3] = (indices[3] + step) % ENTRIES;
                 pages.push(self.page(scene, &indices));
@@ -164,7 +165,7 @@ impl Tree {
 }
 
 /// A pool, a home regime and memory behind the pool, before any tree.
-fn draw_scene(random: &mut Random, least: u64) -> Scene {
+fn draw_scene(random: &mut Random, least: u64, leaves: Leaves) -> Scene {
     let mut scene = Scene::new();
     let code = random.below(6) as u8;
     let granules = draw_granules(random, least);
@@ -177,17 +178,13 @@ fn draw_scene(random: &mut Random, least: u64) -> Scene {
         Placement::EndsAtLimit,
     ]);
     scene.draw_within(random, code, placement, granules, before, behind);
-    settle_home(random, &mut scene);
-    scene
-}
-
-/// HA and HD mostly on, ranges mostly enabled.
-fn settle_home(random: &mut Random, scene: &mut Scene) {
-    scene.regime.ha = !random.once_in(5);
-    scene.regime.hd = !random.once_in(5);
+    let seldom = if leaves == Leaves::Clean { 12 } else { 4 };
+    scene.regime.ha = !random.once_in(seldom);
+    scene.regime.hd = !random.once_in(seldom);
     for range in &mut scene.regime.ranges {
         range.disabled = random.once_in(16);
     }
+    scene
 }
 
 /// The other regimes, and how much is lent as a rule.
@@ -259,7 +256,8 @@ pub fn vary(random: &mut Random, home: &Regime) -> Regime {
 impl World {
     /// Planned trees, one for both ranges or one for each.
     pub fn planned(random: &mut Random, leaves: Leaves) -> World {
-        let mut scene = draw_scene(random, 1);
+        let least = random.pick(&[1, 2, 4, 4, 4]);
+        let mut scene = draw_scene(random, least, leaves);
         let mut pages = Vec::new();
         let both = random.coin();
         for range in 0..2 {
@@ -286,7 +284,7 @@ impl World {
 
     /// Many pages over all places, in one table or one block.
     pub fn wide(random: &mut Random) -> World {
-        let mut scene = draw_scene(random, 4);
+        let mut scene = draw_scene(random, 4, Leaves::Mixed);
         let range = random.below(2) as usize;
         scene.regime.ranges[range].disabled = false;
         let tree = Tree::draw(random, &mut scene, range, Leaves::Mixed);
@@ -307,7 +305,7 @@ impl World {
 
     /// Likely descriptors without a plan, and pages near each other.
     pub fn unplanned(random: &mut Random) -> World {
-        let mut scene = draw_scene(random, 2);
+        let mut scene = draw_scene(random, 2, Leaves::Mixed);
         if random.once_in(8) {
             scene.fill_random(random);
         }

@@ -1,39 +1,18 @@
--- What crosses the C interface: a regime, an access and an answer as structs of numbers.
+-- What crosses the C interface: an access and an answer as structs of numbers.
 use Prim.Native.Nat.{ℕ}
-use mathlib.Core.Bool.{Bool, true, false, not}
 use lib.Dec.{eqb}
 use Rattle.descriptor.specs.Bits.{pick}
+use Rattle.vmsa.specs.Words.{flag, flagByte}
 use Rattle.vmsa.specs.Answers.{Result, success, fault, refused}
-use Rattle.vmsa.specs.declared.Regime.{Regime}
 use Rattle.vmsa.specs.declared.Access.{Access}
 use Rattle.vmsa.specs.declared.AccessKind.{AccessKind}
 use Rattle.vmsa.specs.declared.AccessKind.the-variants.{Read, Write, Update, Fetch, ProbeRead, ProbeWrite}
-use Rattle.capi.specs.declared.RegimeWords.{RegimeWords}
 use Rattle.capi.specs.declared.AccessWords.{AccessWords}
 use Rattle.capi.specs.declared.AnswerWords.{AnswerWords}
-
--- any byte but 0 is true; false is 0, true is 1
-abbrev pub flag : ℕ → Bool
-flag b = not (eqb b 0)
-
-abbrev pub flagByte : Bool → ℕ
-flagByte b = pick b 1 0
 
 -- 0 read, 1 write, 2 update, 3 fetch, 4 probe-read, 5 and above probe-write
 abbrev pub kindOf : ℕ → AccessKind
 kindOf n = pick (eqb n 0) Read (pick (eqb n 1) Write (pick (eqb n 2) Update (pick (eqb n 3) Fetch (pick (eqb n 4) ProbeRead ProbeWrite))))
-
-unfoldable pub regimeOf : RegimeWords → Regime
-regimeOf w = record {
-  pool = record { start = w .start; length = w .length; address = record { 0 = w .address } };
-  range0 = record { root = record { 0 = w .root0 }; tsz = w .tsz0; disabled = flag (w .disabled0) };
-  range1 = record { root = record { 0 = w .root1 }; tsz = w .tsz1; disabled = flag (w .disabled1) };
-  output = w .output;
-  ha = flag (w .ha);
-  hd = flag (w .hd);
-  wxn = flag (w .wxn);
-  attributes = w .attributes;
-}
 
 unfoldable pub accessOf : AccessWords → Access
 accessOf w = record { address = record { 0 = w .address }; size = w .size; el0 = flag (w .el0); kind = kindOf (w .kind) }

@@ -2,37 +2,16 @@
 ghost use mathlib.Core.Path.{_≡_};
 ghost use Rattle.vmsa.specs.Answers.{view};
 ghost use Rattle.walk.specs.Walk.{walk as walkOf};
-ghost use Rattle.capi.specs.Words.{flagByte, kindOf, regimeOf, accessOf, wordsOf};
+ghost use Rattle.vmsa.specs.Words.{regimeOf};
+ghost use Rattle.capi.specs.Words.{kindOf, accessOf, wordsOf};
 use vmsa::Access;
 use vmsa::AccessKind;
 use vmsa::Answer;
 use vmsa::Fault;
-use vmsa::PhysAddr;
-use vmsa::Pool;
-use vmsa::Range;
 use vmsa::Refusal;
-use vmsa::Regime;
+use vmsa::RegimeWords;
 use vmsa::Success;
 use vmsa::VirtAddr;
-
-// A regime. A flag is true where its byte is not 0; attributes is laid out as MAIR_EL1.
-#[repr(C)]
-pub struct RegimeWords {
-    pub start: usize,
-    pub length: usize,
-    pub address: u64,
-    pub root0: u64,
-    pub root1: u64,
-    pub attributes: u64,
-    pub tsz0: u8,
-    pub tsz1: u8,
-    pub disabled0: u8,
-    pub disabled1: u8,
-    pub output: u8,
-    pub ha: u8,
-    pub hd: u8,
-    pub wxn: u8,
-}
 
 // An access. kind: 0 read, 1 write, 2 update, 3 fetch, 4 probe-read, 5 and above probe-write.
 #[repr(C)]
@@ -81,35 +60,6 @@ fn kind_of(n: u8) -> AccessKind
     AccessKind::ProbeWrite
 }
 
-fn regime_of(w: RegimeWords) -> Regime
-    ensures { λ r. ⌜ r ≡ regimeOf w ⌝ }
-{
-    let pool = Pool {
-        start: w.start,
-        length: w.length,
-        address: PhysAddr(w.address),
-    };
-    let range0 = Range {
-        root: PhysAddr(w.root0),
-        tsz: w.tsz0,
-        disabled: w.disabled0 != 0,
-    };
-    let range1 = Range {
-        root: PhysAddr(w.root1),
-        tsz: w.tsz1,
-        disabled: w.disabled1 != 0,
-    };
-    Regime::new()
-        .with_pool(pool)
-        .with_range0(range0)
-        .with_range1(range1)
-        .with_output(w.output)
-        .with_ha(w.ha != 0)
-        .with_hd(w.hd != 0)
-        .with_wxn(w.wxn != 0)
-        .with_attributes(w.attributes)
-}
-
 fn access_of(w: AccessWords) -> Access
     ensures { λ a. ⌜ a ≡ accessOf w ⌝ }
 {
@@ -120,12 +70,6 @@ fn access_of(w: AccessWords) -> Access
         el0: w.el0 != 0,
         kind: kind,
     }
-}
-
-fn flag_byte(b: bool) -> u8
-    ensures { λ r. ⌜ r ≡ flagByte b ⌝ }
-{
-    if b { 1 } else { 0 }
 }
 
 fn success_words(s: Success) -> AnswerWords
@@ -139,10 +83,10 @@ fn success_words(s: Success) -> AnswerWords
         level: s.level,
         attribute: s.attribute,
         shareability: s.shareability,
-        nonglobal: flag_byte(s.nonglobal),
-        accessed: flag_byte(s.accessed),
-        dirtied: flag_byte(s.dirtied),
-        cacheable: flag_byte(s.cacheable),
+        nonglobal: vmsa::flag_byte(s.nonglobal),
+        accessed: vmsa::flag_byte(s.accessed),
+        dirtied: vmsa::flag_byte(s.dirtied),
+        cacheable: vmsa::flag_byte(s.cacheable),
         reads: s.reads,
     }
 }
@@ -161,7 +105,7 @@ fn fault_words(f: Fault) -> AnswerWords
         nonglobal: 0,
         accessed: 0,
         dirtied: 0,
-        cacheable: flag_byte(f.cacheable),
+        cacheable: vmsa::flag_byte(f.cacheable),
         reads: f.reads,
     }
 }
@@ -202,7 +146,7 @@ pub extern "C" fn vmsa_walk(memory: &mut [u8], regime: RegimeWords, access: Acce
     ensures answered { λ w. ⌜ w ≡ wordsOf (walkOf (regimeOf regime) (accessOf access) (now (memory .entry)) .result) ⌝ }
     ensures stored { λ _. ⌜ now (memory .exit) ≡ walkOf (regimeOf regime) (accessOf access) (now (memory .entry)) .bytes ⌝ }
 {
-    let r = regime_of(regime);
+    let r = regime.regime();
     let a = access_of(access);
     words_of(walk::walk(memory, r, a))
 }

@@ -13,6 +13,7 @@ use Rattle.descriptor.specs.Bits.{pick}
 use Rattle.descriptor.proofs.Tests.{or-false}
 use Rattle.descriptor.proofs.Laws.{put-part}
 use Rattle.vmsa.specs.Limits.{Sized}
+use Rattle.vmsa.specs.Words.{flag, regimeOf}
 use Rattle.vmsa.specs.Answers.{Result, view, cacheableIn, codeOf}
 use Rattle.vmsa.specs.declared.Regime.{Regime}
 use Rattle.vmsa.specs.declared.Pool.{Pool}
@@ -33,7 +34,7 @@ use Rattle.walk.specs.Walk.{Outcome, outcome, traced, walkPool, keptAt, keptPoo
 use Rattle.walk.proofs.Parts.{put-back, length-part}
 use Rattle.walk.proofs.Ends.{found}
 use Rattle.session.specs.declared.Session.{Session as SessionStruct}
-use Rattle.session.specs.Replies.{replyOf}
+use Rattle.session.specs.Replies.{done, replyOf}
 use Rattle.vmsa.specs.declared.FaultKind.the-variants.{Translation}
 use Rattle.session.specs.Model.{Walked, lost, walkFrom, Stepped, Session, andThen, walked, keep, learn, setBy, setCall, accessBy, accessIn, accessCall, storeBy, storeIn, storeCall, put}
 use Rattle.session.specs.Ours.{usable, offsetOf, located, ours}
@@ -49,26 +50,26 @@ pub set-checked : (s : Session) (m : List ℕ) (r : Regime) → setCall ours s m
 unfolding regimeCheck
 set-checked s m r = ap (setBy ours s m r) (sym (first-append (memoryRows (length m) (r .pool)) (settingRows r)))
 
-module _ (s : SessionStruct) (m : List ℕ) (e : s .set ≡ true) where
-  regime-set : sessionView s .regime ≡ some (s .regime)
-  regime-set = ap (λ (b : Bool). pick b (some (s .regime)) none) e
+module _ (s : SessionStruct) (m : List ℕ) (e : flag (s .set) ≡ true) where
+  regime-set : sessionView s .regime ≡ some (regimeOf (s .regime))
+  regime-set = ap (λ (b : Bool). pick b (some (regimeOf (s .regime))) none) e
 
-  pub access-checked : (a : Access) → accessCall ours (sessionView s) m a ≡ accessBy ours (sessionView s) m (s .regime) a (sessionAccessCheck (length m) (s .regime .pool) a)
+  pub access-checked : (a : Access) → accessCall ours (sessionView s) m a ≡ accessBy ours (sessionView s) m (regimeOf (s .regime)) a (sessionAccessCheck (length m) (regimeOf (s .regime) .pool) a)
   unfolding sessionAccessCheck
   access-checked a =
       ap (accessIn ours (sessionView s) m a) regime-set
-      ∙ ap (accessBy ours (sessionView s) m (s .regime) a) (sym (first-append (memoryRows (length m) (s .regime .pool)) (accessRows a)))
+      ∙ ap (accessBy ours (sessionView s) m (regimeOf (s .regime)) a) (sym (first-append (memoryRows (length m) (regimeOf (s .regime) .pool)) (accessRows a)))
 
   pub store-checked : (address value : ℕ)
-      → storeCall ours (sessionView s) m address value ≡ storeBy ours (sessionView s) m (s .regime) address value (sessionStoreCheck (length m) (s .regime .pool) address)
+      → storeCall ours (sessionView s) m address value ≡ storeBy ours (sessionView s) m (regimeOf (s .regime)) address value (sessionStoreCheck (length m) (regimeOf (s .regime) .pool) address)
   unfolding sessionStoreCheck
   store-checked address value =
       ap (storeIn ours (sessionView s) m address value) regime-set
-      ∙ ap (storeBy ours (sessionView s) m (s .regime) address value) (sym (first-append (memoryRows (length m) (s .regime .pool)) (storeRows (s .regime .pool) address)))
+      ∙ ap (storeBy ours (sessionView s) m (regimeOf (s .regime)) address value) (sym (first-append (memoryRows (length m) (regimeOf (s .regime) .pool)) (storeRows (regimeOf (s .regime) .pool) address)))
 
-module _ (s : SessionStruct) (m : List ℕ) (e : s .set ≡ false) where
+module _ (s : SessionStruct) (m : List ℕ) (e : flag (s .set) ≡ false) where
   regime-unset : sessionView s .regime ≡ none
-  regime-unset = ap (λ (b : Bool). pick b (some (s .regime)) none) e
+  regime-unset = ap (λ (b : Bool). pick b (some (regimeOf (s .regime))) none) e
 
   pub access-unset : (a : Access) → accessCall ours (sessionView s) m a ≡ accessIn ours (sessionView s) m a none
   access-unset a = ap (accessIn ours (sessionView s) m a) regime-unset
@@ -170,3 +171,12 @@ learned s after r m a w x e k =
 pub store-room : (r : Regime) (m : List ℕ) (address k : ℕ) → Storable (length m) (r .pool) address → k ≡ r .pool .length
     → (address - r .pool .address .0) + 8 ≤ length (take k (drop (r .pool .start) m))
 store-room r m address k h q = rw (q, length-part m (r .pool .start) (r .pool .length) (h .fits)) (omega (arith, h .least, h .most))
+
+pub store-done : (s : SessionStruct) (m : List ℕ) → flag (s .set) ≡ true → (r : Regime) → r ≡ regimeOf (s .regime) → (address value : ℕ)
+    → sessionStoreCheck (length m) (r .pool) address ≡ Accepted → (x : List ℕ) → x ≡ put ours r m (offsetOf r address) value
+    → stepped s x done ≡ storeCall ours (sessionView s) m address value
+store-done s m e r q address value z x f =
+    let own = regimeOf (s .regime) in
+    let z2 : sessionStoreCheck (length m) (own .pool) address ≡ Accepted = subst (λ (y : Regime). sessionStoreCheck (length m) (y .pool) address ≡ Accepted) q z in
+    let f2 : x ≡ put ours own m (offsetOf own address) value = subst (λ (y : Regime). x ≡ put ours y m (offsetOf y address) value) q f in
+    ap (λ (y : List ℕ). stepped s y done) f2 ∙ sym (store-checked s m e address value ∙ ap (storeBy ours (sessionView s) m own address value) z2)

@@ -10,6 +10,7 @@ use lib.ListN.{getD, set, List·getD-map}
 use borrow.Author.Tests.{eq-eqb, ne-eqb, leb-true, le-leb}
 use Rattle.descriptor.specs.Bits.{pick}
 use Rattle.descriptor.proofs.Tests.{and-true}
+use Rattle.vmsa.specs.Words.{flag}
 use Rattle.vmsa.specs.Answers.{dirtiedIn}
 use Rattle.vmsa.specs.declared.Regime.{Regime}
 use Rattle.vmsa.specs.declared.Access.{Access}
@@ -27,9 +28,12 @@ clash z = absurd (let y : _≡_ {A = ℕ} 0 1 = z in omega arith)
 -- ---- what an entry holds of a page
 
 abbrev stands : EntryStruct → Bool
-stands e = e .held && leb (e .leaf .left) 3
+stands e = flag (e .held) && leb (e .left) 3
 
-pub held-match : (e : EntryStruct) (page : ℕ) → stands e ≡ true → e .page ≡ page → some (e .leaf) ≡ heldIn (entryView e) page
+abbrev pub leafIn : EntryStruct → Leaf
+leafIn e = record { value = e .value; left = e .left }
+
+pub held-match : (e : EntryStruct) (page : ℕ) → stands e ≡ true → e .page ≡ page → some (leafIn e) ≡ heldIn (entryView e) page
 held-match e page h q = rw (h, eq-eqb (e .page) page q)
 
 pub held-other : (e : EntryStruct) (page : ℕ) → stands e ≡ true → (e .page ≡ page → ⊥) → none ≡ heldIn (entryView e) page
@@ -42,12 +46,12 @@ held-empty e page h = rw h
 pub held-low : (e : EntryStruct) (page : ℕ) (l : Leaf) → heldIn (entryView e) page ≡ some l → l .left ≤ 3
 held-low e page l q = by (stands e) refl q
   where
-    same : (b : Bool) → leb (e .leaf .left) 3 ≡ true → pick b (some (e .leaf)) none ≡ some l → l .left ≤ 3
-    same true h q = subst (λ (x : Leaf). x .left ≤ 3) (Option·some-injective (e .leaf) l q) (leb-true (e .leaf .left) 3 h)
+    same : (b : Bool) → leb (e .left) 3 ≡ true → pick b (some (leafIn e)) none ≡ some l → l .left ≤ 3
+    same true h q = subst (λ (x : Leaf). x .left ≤ 3) (Option·some-injective (leafIn e) l q) (leb-true (e .left) 3 h)
     same false h q = clash (cc)
 
-    by : (b : Bool) → stands e ≡ b → heldIn (pick b (holds (e .page) (e .leaf)) empty) page ≡ some l → l .left ≤ 3
-    by true h q = same (eqb (e .page) page) (and-true (e .held) (leb (e .leaf .left) 3) h .1) q
+    by : (b : Bool) → stands e ≡ b → heldIn (pick b (holds (e .page) (leafIn e)) empty) page ≡ some l → l .left ≤ 3
+    by true h q = same (eqb (e .page) page) (and-true (flag (e .held)) (leb (e .left) 3) h .1) q
     by false h q = clash (cc)
 
 -- ---- what an entry answers
@@ -107,5 +111,5 @@ map-set (x ∷ l) zero e = refl
 map-set (x ∷ l) (suc i) e = ap (λ (t : List Entry). entryView x ∷ t) (map-set l i e)
 
 pub kept-entry : (l : List EntryStruct) (page : ℕ) (leaf : Leaf) → leaf .left ≤ 3
-    → map entryView (set l (entryOf page) (record { held = true; page = page; leaf = leaf })) ≡ set (map entryView l) (entryOf page) (holds page leaf)
-kept-entry l page leaf h = map-set l (entryOf page) (record { held = true; page = page; leaf = leaf }) ∙ rw (le-leb (leaf .left) 3 h)
+    → map entryView (set l (entryOf page) (record { page = page; value = leaf .value; left = leaf .left; held = 1 })) ≡ set (map entryView l) (entryOf page) (holds page leaf)
+kept-entry l page leaf h = map-set l (entryOf page) (record { page = page; value = leaf .value; left = leaf .left; held = 1 }) ∙ rw (le-leb (leaf .left) 3 h)

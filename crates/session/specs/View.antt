@@ -5,6 +5,7 @@ use mathlib.Core.List.{List, [], _∷_, map}
 use mathlib.Core.Option.{Option, none, some}
 use lib.Dec.{leb}
 use Rattle.descriptor.specs.Bits.{pick}
+use Rattle.vmsa.specs.Words.{flag, regimeOf}
 use Rattle.vmsa.specs.Answers.{Result, view, dirtiedIn}
 use Rattle.vmsa.specs.declared.Regime.{Regime}
 use Rattle.vmsa.specs.declared.Access.{Access}
@@ -24,14 +25,14 @@ use Rattle.session.specs.Model.{Entry, empty, holds, heldIn, Session, St
 
 -- an entry that is not held, or whose leaf stands at no level, is empty
 abbrev pub entryView : EntryStruct → Entry
-entryView e = pick (e .held && leb (e .leaf .left) 3) (holds (e .page) (e .leaf)) empty
+entryView e = pick (flag (e .held) && leb (e .left) 3) (holds (e .page) (record { value = e .value; left = e .left })) empty
 
 -- the empty entry
 abbrev pub noEntry : EntryStruct
-noEntry = record { held = false; page = 0; leaf = record { value = 0; left = 0 } }
+noEntry = record { page = 0; value = 0; left = 0; held = 0 }
 
 abbrev pub sessionView : SessionStruct → Session
-sessionView s = record { regime = pick (s .set) (some (s .regime)) none; entries = map entryView (s .entries) }
+sessionView s = record { regime = pick (flag (s .set)) (some (regimeOf (s .regime))) none; entries = map entryView (s .entries) }
 
 -- what a call of the code left, in the model's values
 abbrev pub stepped : SessionStruct → List ℕ → Reply → Stepped

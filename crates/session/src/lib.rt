@@ -18,22 +18,26 @@ use vmsa::Leaf;
 use vmsa::PhysAddr;
 use vmsa::Refusal;
 use vmsa::Regime;
+use vmsa::RegimeWords;
 use walk::Kept;
 
 pub const ENTRIES: u64 = 64;
 
-// A TLB entry: the leaf that it holds of a page.
+// A TLB entry: the leaf that it holds of a page, where held is not 0. All numbers, so that any bytes are an entry.
+#[repr(C)]
 pub struct Entry {
-    pub held: bool,
     pub page: u64,
-    pub leaf: Leaf,
+    pub value: u64,
+    pub left: u8,
+    pub held: u8,
 }
 
-// A session: whether it has a regime, the regime last accepted, and the entries.
+// A session: the regime last accepted, where set is not 0, and the entries. All numbers, so that any bytes are a session.
+#[repr(C)]
 pub struct Session {
-    pub set: bool,
-    pub regime: Regime,
+    pub regime: RegimeWords,
     pub entries: [Entry; 64],
+    pub set: u8,
 }
 
 // What an entry holds of a page.
@@ -66,9 +70,10 @@ impl Entry {
         ensures { λ e. ⌜ e ≡ noEntry ⌝ }
     {
         Entry {
-            held: false,
             page: 0,
-            leaf: Leaf { value: 0, left: 0 },
+            value: 0,
+            left: 0,
+            held: 0,
         }
     }
 
@@ -76,10 +81,12 @@ impl Entry {
     pub fn held_of(self, page: u64) -> Held
         ensures { λ h. ⌜ heldLeaf h ≡ heldIn (entryView self) page ⌝ }
     {
-        let leaf = self.leaf;
-        if self.held & (leaf.left <= 3) {
+        if (self.held != 0) & (self.left <= 3) {
             if self.page == page {
-                return Held::Leaf(leaf);
+                return Held::Leaf(Leaf {
+                    value: self.value,
+                    left: self.left,
+                });
             }
             return Held::Nothing;
         }
@@ -139,9 +146,9 @@ impl Session {
     {
         let entry = Entry::empty();
         Session {
-            set: false,
-            regime: Regime::new(),
+            regime: RegimeWords::of(Regime::new()),
             entries: [entry; 64],
+            set: 0,
         }
     }
 
@@ -156,10 +163,11 @@ impl Session {
             },
             Checked::Accepted => {
                 let entry = Entry::empty();
+                let words = RegimeWords::of(r);
                 let session = Session {
-                    set: true,
-                    regime: r,
+                    regime: words,
                     entries: [entry; 64],
+                    set: 1,
                 };
                 Changed {
                     session: session,
@@ -197,19 +205,19 @@ impl Session {
         };
         let i = (page % ENTRIES) as usize;
         self.entries[i] = Entry {
-            held: true,
             page: page,
-            leaf: leaf,
+            value: leaf.value,
+            left: leaf.left,
+            held: 1,
         };
         self
     }
 
     // An access past its checks: its page's entry answers, or else the walk, whose leaf is kept.
-    fn answer(self, memory: &mut [u8], a: Access) -> Accessed
-        requires { ⌜ (self .regime .pool .start + self .regime .pool .length ≤ length (now memory)) × (0 < a .size) ⌝ }
-        ensures { λ x. ⌜ stepped (x .session) (now (memory .exit)) (replyOf (view (x .answer))) ≡ accessHeld ours (sessionView self) (now (memory .entry)) (self .regime) a (heldOf (sessionView self .entries) (ours .page (self .regime) a)) ⌝ }
+    fn answer(self, memory: &mut [u8], r: Regime, a: Access) -> Accessed
+        requires { ⌜ (r .pool .start + r .pool .length ≤ length (now memory)) × (0 < a .size) ⌝ }
+        ensures { λ x. ⌜ stepped (x .session) (now (memory .exit)) (replyOf (view (x .answer))) ≡ accessHeld ours (sessionView self) (now (memory .entry)) r a (heldOf (sessionView self .entries) (ours .page r a)) ⌝ }
     {
-        let r = self.regime;
         let page = vmsa::page_of(vmsa::PAGE_BITS, a.address);
         match self.entry_of(page).ask(r, a) {
             Asked::Answered(answer) => Accessed {
@@ -233,18 +241,19 @@ impl Session {
     pub fn access(self, memory: &mut [u8], a: Access) -> Accessed
         ensures { λ x. ⌜ stepped (x .session) (now (memory .exit)) (replyOf (view (x .answer))) ≡ accessCall ours (sessionView self) (now (memory .entry)) a ⌝ }
     {
-        if !self.set {
+        if self.set == 0 {
             return Accessed {
                 session: self,
                 answer: Answer::Refused(Refusal::NoRegime),
             };
         }
-        match checks::check_session_access(memory.len(), self.regime.pool, a) {
+        let r = self.regime.regime();
+        match checks::check_session_access(memory.len(), r.pool, a) {
             Checked::Refused(refusal) => Accessed {
                 session: self,
                 answer: Answer::Refused(refusal),
             },
-            Checked::Accepted => self.answer(memory, a),
+            Checked::Accepted => self.answer(memory, r, a),
         }
     }
 
@@ -252,21 +261,22 @@ impl Session {
     pub fn store(self, memory: &mut [u8], address: PhysAddr, value: u64) -> Changed
         ensures { λ x. ⌜ stepped (x .session) (now (memory .exit)) (replyTo (x .reply)) ≡ storeCall ours (sessionView self) (now (memory .entry)) (address .0) value ⌝ }
     {
-        if !self.set {
+        if self.set == 0 {
             return Changed {
                 session: self,
                 reply: Checked::Refused(Refusal::NoRegime),
             };
         }
-        match checks::check_session_store(memory.len(), self.regime.pool, address) {
+        let pool = self.regime.regime().pool;
+        match checks::check_session_store(memory.len(), pool, address) {
             Checked::Refused(refusal) => Changed {
                 session: self,
                 reply: Checked::Refused(refusal),
             },
             Checked::Accepted => {
-                let start = self.regime.pool.start;
-                let end = start + self.regime.pool.length;
-                let offset = (address.0 - self.regime.pool.address.0) as usize;
+                let start = pool.start;
+                let end = start + pool.length;
+                let offset = (address.0 - pool.address.0) as usize;
                 descriptor::store(&mut memory[start..end], offset, value);
                 Changed {
                     session: self,

@@ -5,3 +5,4 @@ pub mod Attributes
 pub mod Fields
 pub mod Answers
 pub mod Settings
+pub mod Words

@@ -6,6 +6,7 @@ ghost use Rattle.vmsa.specs.Geometry.{pageSize as pageSizeOf, unaligned 
 ghost use Rattle.vmsa.specs.Kinds.{isFetch, isProbe, asksWrite, writes as writesOf};
 ghost use Rattle.vmsa.specs.Attributes.{attribute as attributeOf, device as deviceOf, normal as normalOf};
 ghost use Rattle.vmsa.specs.Answers.{numberOf, codeOf, view, cacheableIn, dirtiedIn};
+ghost use Rattle.vmsa.specs.Words.{flagByte, regimeOf, regimeWords};
 ghost use Rattle.vmsa.specs.Settings.{initial, withPool, withRange0, withRange1, withOutput, withHa, withHd, withWxn, withAttributes};
 
 // The limits of the pool, the memory and the regime; specs/Limits.antt has the same numbers.
@@ -56,6 +57,25 @@ pub struct Regime {
     pub hd: bool,
     pub wxn: bool,
     pub attributes: u64,
+}
+
+// A regime as numbers, for where any bytes may stand: a flag is true where its byte is not 0.
+#[repr(C)]
+pub struct RegimeWords {
+    pub start: usize,
+    pub length: usize,
+    pub address: u64,
+    pub root0: u64,
+    pub root1: u64,
+    pub attributes: u64,
+    pub tsz0: u8,
+    pub tsz1: u8,
+    pub disabled0: u8,
+    pub disabled1: u8,
+    pub output: u8,
+    pub ha: u8,
+    pub hd: u8,
+    pub wxn: u8,
 }
 
 pub enum AccessKind {
@@ -210,6 +230,67 @@ impl Regime {
     {
         self.attributes = attributes;
         self
+    }
+}
+
+// 1 for true, 0 for false.
+pub fn flag_byte(b: bool) -> u8
+    ensures { λ r. ⌜ r ≡ flagByte b ⌝ }
+{
+    if b { 1 } else { 0 }
+}
+
+impl RegimeWords {
+    // The regime that the numbers stand for.
+    pub fn regime(self) -> Regime
+        ensures { λ r. ⌜ r ≡ regimeOf self ⌝ }
+    {
+        let pool = Pool {
+            start: self.start,
+            length: self.length,
+            address: PhysAddr(self.address),
+        };
+        let range0 = Range {
+            root: PhysAddr(self.root0),
+            tsz: self.tsz0,
+            disabled: self.disabled0 != 0,
+        };
+        let range1 = Range {
+            root: PhysAddr(self.root1),
+            tsz: self.tsz1,
+            disabled: self.disabled1 != 0,
+        };
+        Regime::new()
+            .with_pool(pool)
+            .with_range0(range0)
+            .with_range1(range1)
+            .with_output(self.output)
+            .with_ha(self.ha != 0)
+            .with_hd(self.hd != 0)
+            .with_wxn(self.wxn != 0)
+            .with_attributes(self.attributes)
+    }
+
+    // A regime as numbers.
+    pub fn of(r: Regime) -> Self
+        ensures { λ w. ⌜ w ≡ regimeWords r ⌝ }
+    {
+        RegimeWords {
+            start: r.pool.start,
+            length: r.pool.length,
+            address: r.pool.address.0,
+            root0: r.range0.root.0,
+            root1: r.range1.root.0,
+            attributes: r.attributes,
+            tsz0: r.range0.tsz,
+            tsz1: r.range1.tsz,
+            disabled0: flag_byte(r.range0.disabled),
+            disabled1: flag_byte(r.range1.disabled),
+            output: r.output,
+            ha: flag_byte(r.ha),
+            hd: flag_byte(r.hd),
+            wxn: flag_byte(r.wxn),
+        }
     }
 }
 

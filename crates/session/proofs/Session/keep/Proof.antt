@@ -2,9 +2,8 @@ use borrow.Author.Needs.{needs}
 use mathlib.Core.Path.{_≡_, ap}
 use mathlib.Core.List.{List}
 use Prim.Native.Nat.{_≤_}
-use Rattle.walk.specs.declared.Kept.the-variants as kept
 use Rattle.session.specs.Model.{Session, Entry}
-use Rattle.session.specs.View.{Low, sessionView}
+use Rattle.session.specs.View.{sessionView}
 use Rattle.session.proofs.Entries.{kept-entry}
 use Rattle.session.proofs.Session.keep.Statement.{statement}
 use Rattle.session.proofs.Session.keep.Tie as tie

@@ -1,6 +1,8 @@
 use borrow.Author.Needs.{needs}
-use mathlib.Core.Path.{sym, _∙_}
+use mathlib.Core.Path.{sym, ap, _∙_}
 use lib.ListN.{length}
+use Rattle.vmsa.specs.Words.{regimeOf}
+use Rattle.vmsa.proofs.Words.{regime-words}
 use Rattle.session.specs.View.{sessionView}
 use Rattle.session.proofs.Calls.{set-checked}
 use Rattle.session.proofs.Session.set_regime.Statement.{statement}
@@ -10,9 +12,18 @@ returns : tie.Need-returns
 returns c = let a = c .before .before .before .before .before .args in rw (set-checked (sessionView (a .self)) (a .memory .now) (a .r), sym (c .before .before .before .check-regime .ensures) ∙ c .before .refusal .given .1)
 
 returns-2 : tie.Need-returns-2
-returns-2 c = let a = c .before .before .before .before .before .args in rw (c .empty .ensures, set-checked (sessionView (a .self)) (a .memory .now) (a .r), sym (c .before .before .before .check-regime .ensures) ∙ c .before .enum-told .given .1)
+returns-2 c =
+    let a = c .before .before .before .before .before .before .args in
+    rw (c .before .empty .ensures, ap regimeOf (c .of .ensures) ∙ regime-words (a .r), set-checked (sessionView (a .self)) (a .memory .now) (a .r), sym (c .before .before .before .before .check-regime .ensures) ∙ c .before .before .enum-told .given .1)
 
 pub set-regime-spec : {M : Type 1} → statement M
 set-regime-spec =
     tie.close
-    (tie.spec (λ c κs. search needs) (λ c. search needs) (λ c. search needs) (λ c κs. search needs) returns returns-2)
+    (tie.spec
+    (λ c κs. search needs)
+    (λ c. search needs)
+    (λ c. search needs)
+    (λ c κs. search needs)
+    (λ c κs. search needs)
+    returns
+    returns-2)
