@@ -220,6 +220,9 @@ impl Script {
                 let kind = random.pick(&[Kind::Write, Kind::Update]);
                 let mut access = draw_access_of(random, page, kind);
                 access.el0 = random.once_in(4);
+                if access.size > 1 && random.coin() {
+                    access.address = page + 1;
+                }
                 Some(Call::Access(access))
             }
             Planned::Look(page) => Some(Call::Access(draw_access(random, page))),
@@ -392,7 +395,7 @@ impl Script {
         let granule = regime.pool.address + GRANULE * random.below(granules);
         let output = random.below(limit);
         let device = regime.attributes.iter().position(|&byte| is_device(byte));
-        match random.below(28) {
+        match random.below(30) {
             0 | 1 => set_bit(old, AF, true),
             2 | 3 => set_bit(old, AF, false),
             4 | 5 => set_bit(old, AP2, false),
@@ -414,7 +417,7 @@ impl Script {
             // Clean again.
             23 | 24 => set_bit(set_bit(old, AP2, true), DBM, true),
             // Device, and perhaps not accessed.
-            25 | 26 => {
+            25..=28 => {
                 let index = device.unwrap_or(0) as u64;
                 set_bit(old & !(7 << 2) | index << 2, AF, random.coin())
             }

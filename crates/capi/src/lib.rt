@@ -1,152 +1,36 @@
-// The C interface: structs of numbers by value, the memory as a pointer and a length.
+// The C interface: structs of numbers, the memory as a pointer and a length. Nothing that a caller passes is out of contract.
 ghost use mathlib.Core.Path.{_≡_};
-ghost use Rattle.vmsa.specs.Answers.{view};
-ghost use Rattle.walk.specs.Walk.{walk as walkOf};
 ghost use Rattle.vmsa.specs.Words.{regimeOf};
-ghost use Rattle.capi.specs.Words.{kindOf, accessOf, wordsOf};
-use vmsa::Access;
-use vmsa::AccessKind;
-use vmsa::Answer;
-use vmsa::Fault;
-use vmsa::Refusal;
+ghost use Rattle.session.specs.Model.{fresh};
+ghost use Rattle.session.specs.View.{sessionView};
+ghost use Rattle.words.specs.Words.{accessOf, told, walkTold};
+use session::Session;
 use vmsa::RegimeWords;
-use vmsa::Success;
-use vmsa::VirtAddr;
+use words::AccessWords;
+use words::AnswerWords;
 
-// An access. kind: 0 read, 1 write, 2 update, 3 fetch, 4 probe-read, 5 and above probe-write.
-#[repr(C)]
-pub struct AccessWords {
-    pub address: u64,
-    pub size: u64,
-    pub el0: u8,
-    pub kind: u8,
-}
+// The version of this interface.
+pub const VERSION: u32 = 1;
 
-// An answer. tag: 0 success, 1 fault, 2 refused; what an answer does not hold is 0.
-#[repr(C)]
-pub struct AnswerWords {
-    pub output: u64,
-    pub tag: u8,
-    pub refusal: u8,
-    pub code: u16,
-    pub level: u8,
-    pub attribute: u8,
-    pub shareability: u8,
-    pub nonglobal: u8,
-    pub accessed: u8,
-    pub dirtied: u8,
-    pub cacheable: u8,
-    pub reads: u8,
-}
-
-fn kind_of(n: u8) -> AccessKind
-    ensures { λ k. ⌜ k ≡ kindOf n ⌝ }
+#[no_mangle]
+pub extern "C" fn vmsa_version() -> u32
+    ensures { λ r. ⌜ r ≡ 1 ⌝ }
 {
-    if n == 0 {
-        return AccessKind::Read;
-    }
-    if n == 1 {
-        return AccessKind::Write;
-    }
-    if n == 2 {
-        return AccessKind::Update;
-    }
-    if n == 3 {
-        return AccessKind::Fetch;
-    }
-    if n == 4 {
-        return AccessKind::ProbeRead;
-    }
-    AccessKind::ProbeWrite
-}
-
-fn access_of(w: AccessWords) -> Access
-    ensures { λ a. ⌜ a ≡ accessOf w ⌝ }
-{
-    let kind = kind_of(w.kind);
-    Access {
-        address: VirtAddr(w.address),
-        size: w.size,
-        el0: w.el0 != 0,
-        kind: kind,
-    }
-}
-
-fn success_words(s: Success) -> AnswerWords
-    ensures { λ w. ⌜ w ≡ wordsOf (view (Answer.Success s)) ⌝ }
-{
-    AnswerWords {
-        output: s.output.0,
-        tag: 0,
-        refusal: 0,
-        code: 0,
-        level: s.level,
-        attribute: s.attribute,
-        shareability: s.shareability,
-        nonglobal: vmsa::flag_byte(s.nonglobal),
-        accessed: vmsa::flag_byte(s.accessed),
-        dirtied: vmsa::flag_byte(s.dirtied),
-        cacheable: vmsa::flag_byte(s.cacheable),
-        reads: s.reads,
-    }
-}
-
-fn fault_words(f: Fault) -> AnswerWords
-    ensures { λ w. ⌜ w ≡ wordsOf (view (Answer.Fault f)) ⌝ }
-{
-    AnswerWords {
-        output: 0,
-        tag: 1,
-        refusal: 0,
-        code: f.code(),
-        level: f.level,
-        attribute: 0,
-        shareability: 0,
-        nonglobal: 0,
-        accessed: 0,
-        dirtied: 0,
-        cacheable: vmsa::flag_byte(f.cacheable),
-        reads: f.reads,
-    }
-}
-
-fn refusal_words(x: Refusal) -> AnswerWords
-    ensures { λ w. ⌜ w ≡ wordsOf (view (Answer.Refused x)) ⌝ }
-{
-    AnswerWords {
-        output: 0,
-        tag: 2,
-        refusal: x.number(),
-        code: 0,
-        level: 0,
-        attribute: 0,
-        shareability: 0,
-        nonglobal: 0,
-        accessed: 0,
-        dirtied: 0,
-        cacheable: 0,
-        reads: 0,
-    }
-}
-
-// An answer as numbers.
-pub fn words_of(answer: Answer) -> AnswerWords
-    ensures { λ w. ⌜ w ≡ wordsOf (view answer) ⌝ }
-{
-    match answer {
-        Answer::Success(s) => success_words(s),
-        Answer::Fault(f) => fault_words(f),
-        Answer::Refused(x) => refusal_words(x),
-    }
+    VERSION
 }
 
 // The plain walk of an access in the lent memory.
 #[no_mangle]
 pub extern "C" fn vmsa_walk(memory: &mut [u8], regime: RegimeWords, access: AccessWords) -> AnswerWords
-    ensures answered { λ w. ⌜ w ≡ wordsOf (walkOf (regimeOf regime) (accessOf access) (now (memory .entry)) .result) ⌝ }
-    ensures stored { λ _. ⌜ now (memory .exit) ≡ walkOf (regimeOf regime) (accessOf access) (now (memory .entry)) .bytes ⌝ }
+    ensures { λ w. ⌜ told w (now (memory .exit)) ≡ walkTold (regimeOf regime) (accessOf access) (now (memory .entry)) ⌝ }
 {
-    let r = regime.regime();
-    let a = access_of(access);
-    words_of(walk::walk(memory, r, a))
+    words::walk_words(memory, regime, access)
+}
+
+// The fresh session: no regime, and every entry empty.
+#[no_mangle]
+pub extern "C" fn vmsa_session_empty() -> Session
+    ensures { λ s. ⌜ sessionView s ≡ fresh ⌝ }
+{
+    Session::empty()
 }

@@ -1,7 +1,7 @@
 use borrow.Author.Needs.{needs}
-use Rattle.capi.specs.Words.{wordsOf}
-use Rattle.capi.proofs.success_words.Statement.{statement}
-use Rattle.capi.proofs.success_words.Tie as tie
+use Rattle.words.specs.Words.{wordsOf}
+use Rattle.words.proofs.success_words.Statement.{statement}
+use Rattle.words.proofs.success_words.Tie as tie
 
 returns : tie.Need-returns
 unfolding wordsOf

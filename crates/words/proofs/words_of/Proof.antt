@@ -1,7 +1,7 @@
 use borrow.Author.Needs.{needs}
 use mathlib.Core.Path.{_∙_}
-use Rattle.capi.proofs.words_of.Statement.{statement}
-use Rattle.capi.proofs.words_of.Tie as tie
+use Rattle.words.proofs.words_of.Statement.{statement}
+use Rattle.words.proofs.words_of.Tie as tie
 
 returns : tie.Need-returns
 returns c = c .success-words .ensures ∙ rw (c .before .before .answer .given .1)

@@ -1,7 +1,7 @@
 use borrow.Author.Needs.{needs}
-use Rattle.capi.specs.Words.{accessOf}
-use Rattle.capi.proofs.access_of.Statement.{statement}
-use Rattle.capi.proofs.access_of.Tie as tie
+use Rattle.words.specs.Words.{accessOf}
+use Rattle.words.proofs.access_of.Statement.{statement}
+use Rattle.words.proofs.access_of.Tie as tie
 
 returns : tie.Need-returns
 unfolding accessOf

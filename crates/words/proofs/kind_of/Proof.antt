@@ -1,6 +1,6 @@
 use borrow.Author.Tests.{eq-eqb, ne-eqb}
-use Rattle.capi.proofs.kind_of.Statement.{statement}
-use Rattle.capi.proofs.kind_of.Tie as tie
+use Rattle.words.proofs.kind_of.Statement.{statement}
+use Rattle.words.proofs.kind_of.Tie as tie
 
 returns : tie.Need-returns
 returns c = rw (eq-eqb _ _ (c .if1 .taken))
