@@ -330,12 +330,12 @@ impl LibrarySession {
     }
 }
 
-// SAFETY of the calls below: pointer and length are those of one slice that
-// is ours alone for the time of the call; the rest is promised to `fresh`.
 impl Subject for LibrarySession {
     fn set_regime(&mut self, memory: &mut [u8], regime: &Regime, spelling: Spelling) -> u8 {
         let (start, length) = (memory.as_mut_ptr().cast_const(), memory.len());
         let regime = spelling.regime(regime);
+        // SAFETY: pointer and length are those of one slice that is ours
+        // alone for the time of the call; the rest is promised to `fresh`.
         let changed = unsafe { (self.functions.set_regime)(self.session, start, length, regime) };
         self.session = changed.session;
         changed.refusal
@@ -344,6 +344,7 @@ impl Subject for LibrarySession {
     fn access(&mut self, memory: &mut [u8], access: &Access, spelling: Spelling) -> CAnswer {
         let (start, length) = (memory.as_mut_ptr(), memory.len());
         let access = spelling.access(access);
+        // SAFETY: as for `set_regime`.
         let accessed = unsafe { (self.functions.access)(self.session, start, length, access) };
         self.session = accessed.session;
         accessed.answer
@@ -351,6 +352,7 @@ impl Subject for LibrarySession {
 
     fn store(&mut self, memory: &mut [u8], address: u64, value: u64) -> u8 {
         let (start, length) = (memory.as_mut_ptr(), memory.len());
+        // SAFETY: as for `set_regime`.
         let changed =
             unsafe { (self.functions.store)(self.session, start, length, address, value) };
         self.session = changed.session;
@@ -358,6 +360,7 @@ impl Subject for LibrarySession {
     }
 
     fn invalidate_all(&mut self) {
+        // SAFETY: promised to `fresh`.
         self.session = unsafe { (self.functions.invalidate_all)(self.session) };
     }
 }

@@ -71,10 +71,10 @@ impl<T: Countable> Counts<T> {
 }
 
 /// A line of how many were made of each family.
-pub fn report_families(families: &BTreeMap<&'static str, u64>) {
+pub fn report_families(title: &str, families: &BTreeMap<&'static str, u64>) {
     let told: Vec<String> = families
         .iter()
         .map(|(name, count)| format!("{name} {count}"))
         .collect();
-    println!("families: {}", told.join(", "));
+    println!("{title}: {}", told.join(", "));
 }

@@ -264,7 +264,12 @@ impl<'a> Past<'a> {
     /// The plain walk of this moment, its count put to 0, and the bytes it
     /// leaves; nothing where a store came after the last emptying, or
     /// before any regime.
-    fn first_half(&self, access: &Access, memory: &[u8], lent: usize) -> Option<(CAnswer, Vec<u8>)> {
+    fn first_half(
+        &self,
+        access: &Access,
+        memory: &[u8],
+        lent: usize,
+    ) -> Option<(CAnswer, Vec<u8>)> {
         let regime = self.regime()?;
         let since = &self.events[self.since_emptying()];
         if since.iter().any(Event::is_accepted_store) {

@@ -1,6 +1,7 @@
 //! Scripts of calls, each from a fresh session over one memory.
 
 mod calls;
+mod features;
 mod play;
 mod tally;
 mod world;

@@ -459,7 +459,7 @@ impl Tally {
 
     /// All counts. True if nothing is missing and nothing strange.
     pub fn report(&self) -> bool {
-        report_families(&self.families);
+        report_families("families", &self.families);
         self.met.report()
     }
 

@@ -1,6 +1,9 @@
 //! P1 to P12 of 01 held against the reference, and a check that the cases
 //! meet all they should.
 
+mod rule3;
+mod session;
+
 use crate::boundary::plain_answer;
 use crate::cases::{run_all, Case, Runner};
 use crate::promises;

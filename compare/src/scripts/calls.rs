@@ -6,8 +6,8 @@ use crate::boundary::Spelling;
 use crate::cases::scene::{draw_access, draw_access_of, draw_table};
 use crate::random::Random;
 use crate::reference::{
-    find_leaf, is_device, offset_in_memory, output_limit, read_descriptor, row_1, writable_clean, Access, Kind, Regime, AF,
-    AP1, AP2, DBM, GRANULE, PHYSICAL_LIMIT, POOL_LIMIT, PXN, UXN,
+    find_leaf, is_device, offset_in_memory, output_limit, read_descriptor, row_1, writable_clean,
+    Access, Kind, Regime, AF, AP1, AP2, DBM, GRANULE, PHYSICAL_LIMIT, POOL_LIMIT, PXN, UXN,
 };
 use crate::session::{Call, Held, Session};
 
@@ -62,7 +62,13 @@ impl Script {
         let mixed = |random: &mut Random| World::planned(random, Leaves::Mixed);
         let clean = |random: &mut Random| World::planned(random, Leaves::Clean);
         let (family, mood, world) = match number % 16 {
-            _ if number % 500 == 7 => ("long", EVEN, World::long(&mut random)),
+            _ if number % 500 == 7 => {
+                let lengths = Mood {
+                    odd_length: 3,
+                    ..EVEN
+                };
+                ("long", lengths, World::long(&mut random))
+            }
             0..=3 => ("trees", EVEN, mixed(&mut random)),
             4..=7 => {
                 let dirty = Mood {
@@ -99,21 +105,27 @@ impl Script {
             }
             13 => {
                 let fill = Mood {
-                    store: 4,
+                    store: 2,
                     drop: 0,
                     regime: 0,
+                    bad_regime: 1,
+                    bad_access: 1,
                     ..EVEN
                 };
                 ("wide", fill, World::wide(&mut random))
             }
             _ => ("noise", EVEN, World::unplanned(&mut random)),
         };
-        // Pages that stand together have a table or a leaf in common.
         let pages = &world.pages;
-        let (run, more) = if family == "wide" { (40, 0) } else { (4, 4) };
-        let start = random.below(pages.len() as u64 - run + 1) as usize;
-        let mut hot = pages[start..start + run as usize].to_vec();
-        hot.extend((0..more).map(|_| random.pick(pages)));
+        let hot = if family == "wide" {
+            pages.clone()
+        } else {
+            // Pages that stand together have a table or a leaf in common.
+            let start = random.below(pages.len() as u64 - 3) as usize;
+            let mut hot = pages[start..start + 4].to_vec();
+            hot.extend((0..4).map(|_| random.pick(pages)));
+            hot
+        };
         Script {
             family,
             world,
@@ -155,7 +167,10 @@ impl Script {
     /// Lengths around the pool's end, and beyond what is lent as a rule.
     fn draw_length(&mut self, session: &Session) -> usize {
         let all = self.world.memory.len();
-        let pool = session.regime.unwrap_or(self.world.regimes[0]).pool;
+        let Some(regime) = session.regime else {
+            return self.random.pick(&[0, all, all]);
+        };
+        let pool = regime.pool;
         let end = pool.start + pool.length;
         let any = self.random.below(all as u64 + 1) as usize;
         let lengths = [0, 1, pool.start, end - 1, end - 8, end, end + 1, all, any];
@@ -164,7 +179,8 @@ impl Script {
 
     /// A call, and its length if that is not the usual one.
     fn draw_call(&mut self, session: &Session, memory: &[u8]) -> (Call, Option<usize>) {
-        if session.regime.is_none() && self.random.coin() {
+        let patience = if self.family == "long" { 4 } else { 2 };
+        if session.regime.is_none() && self.random.once_in(patience) {
             return self.draw_regime();
         }
         if let Some(call) = self.follow_plan(session, memory) {
@@ -232,6 +248,10 @@ impl Script {
     /// A held page, a hot one, or any.
     fn draw_page(&mut self, session: &Session) -> u64 {
         let held: Vec<u64> = session.places.iter().flatten().map(|h| h.page).collect();
+        if self.family == "wide" && !self.random.once_in(8) {
+            self.hot.rotate_left(1);
+            return self.hot[0];
+        }
         match self.random.below(12) {
             0..=3 if !held.is_empty() => self.random.pick(&held) * GRANULE,
             11 => self.random.pick(&self.world.pages),

@@ -2,15 +2,43 @@
 //! reply and each byte against the other's, and rule 3 against the list.
 
 use super::calls::Script;
-use super::tally::{Bytes, Tally};
+use super::tally::Tally;
 use super::{Step, CALLS};
 use crate::boundary::{plain_answer, Reply, Spelling, Subject};
-use crate::cases::scene::draw_access_of;
-use crate::reference::{row_1, Access, Answer, Kind, GRANULE};
+use crate::cases::scene::{draw_access_of, Scene};
+use crate::random::Random;
+use crate::reference::{row_1, Access, Answer, Kind, Regime, GRANULE};
 use crate::rule3::History;
 use crate::session::{Call, Session, Way, PLACES};
 use std::collections::BTreeSet;
 use std::fmt::Write;
+
+/// The bytes that a new access finds after a script.
+#[derive(Clone, Copy, Debug, PartialEq, Eq, PartialOrd, Ord)]
+pub enum Bytes {
+    Current,
+    Zeros,
+    Noise,
+}
+
+impl Bytes {
+    pub const ALL: [Bytes; 3] = [Bytes::Current, Bytes::Zeros, Bytes::Noise];
+
+    /// A memory of the same length; noise may look like tables.
+    pub fn fill(self, random: &mut Random, current: &[u8], regime: &Regime) -> Vec<u8> {
+        let mut scene = Scene {
+            memory: current.to_vec(),
+            regime: *regime,
+        };
+        match self {
+            Bytes::Current => {}
+            Bytes::Zeros => scene.memory.fill(0),
+            Bytes::Noise if random.coin() => scene.fill_random(random),
+            Bytes::Noise => scene.fill_likely(random),
+        }
+        scene.memory
+    }
+}
 
 /// Bytes kept on both sides of the memory; nobody may touch them.
 const MARGIN: usize = 64;
@@ -62,13 +90,7 @@ pub struct Play<'a, S> {
 }
 
 impl<'a, S: Subject> Play<'a, S> {
-    pub fn new(
-        number: u64,
-        trace: bool,
-        subject: S,
-        memory: &[u8],
-        tally: &'a mut Tally,
-    ) -> Self {
+    pub fn new(number: u64, trace: bool, subject: S, memory: &[u8], tally: &'a mut Tally) -> Self {
         Play {
             number,
             trace,
@@ -141,7 +163,7 @@ impl<'a, S: Subject> Play<'a, S> {
         for bytes in Bytes::ALL {
             let home = &script.world.regimes[0];
             let memory = bytes.fill(&mut script.random, &self.memory, home);
-            let mut table = Table::new(&memory, self.arena.start - MARGIN);
+            let mut scratch = Scratch::new(&memory, self.arena.start - MARGIN);
             for &page in &pages {
                 for kind in Kind::ALL {
                     let access = draw_access_of(&mut script.random, page, kind);
@@ -151,7 +173,7 @@ impl<'a, S: Subject> Play<'a, S> {
                         spelling: Spelling::draw(&mut script.random),
                     };
                     self.trace(&format!("probe over {bytes:?}"), &step);
-                    self.probe_once(&mut table, bytes, &step, &access)?;
+                    self.probe_once(&mut scratch, bytes, &step, &access)?;
                 }
             }
         }
@@ -161,19 +183,19 @@ impl<'a, S: Subject> Play<'a, S> {
     /// One access on copies of both sessions.
     fn probe_once(
         &mut self,
-        table: &mut Table,
+        scratch: &mut Scratch,
         bytes: Bytes,
         step: &Step,
         access: &Access,
     ) -> Result<(), Vec<String>> {
         let mut session = self.session.clone();
         let mut subject = self.subject.clone();
-        let (wanted, _) = ask(&mut session, &mut table.memory[..step.lent], &step.call);
-        let lent = table.arena.lend(step.lent);
+        let (wanted, _) = ask(&mut session, &mut scratch.memory[..step.lent], &step.call);
+        let lent = scratch.arena.lend(step.lent);
         let got = subject.call(lent, &step.call, step.spelling);
-        let mut why = differences(&wanted, &got, &table.memory, &table.arena);
+        let mut why = differences(&wanted, &got, &scratch.memory, &scratch.arena);
 
-        let promised = &mut table.promised[..step.lent];
+        let promised = &mut scratch.promised[..step.lent];
         match self.history.whole().promise(access, promised) {
             Ok(Some((class, answer))) => {
                 if got != Reply::Answered(answer) {
@@ -181,7 +203,7 @@ impl<'a, S: Subject> Play<'a, S> {
                         "rule 3: second half, {class:?}: promised was {answer:x?}"
                     ));
                 }
-                if table.arena.memory() != table.promised {
+                if scratch.arena.memory() != scratch.promised {
                     why.push(format!("rule 3: second half, {class:?}: the bytes"));
                 }
                 self.tally.note_probe(class, bytes, &answer);
@@ -196,7 +218,7 @@ impl<'a, S: Subject> Play<'a, S> {
             why.push(format!("library: {got:x?}"));
             return Err(why);
         }
-        table.restore();
+        scratch.restore();
         Ok(())
     }
 
@@ -208,6 +230,7 @@ impl<'a, S: Subject> Play<'a, S> {
         }
         let bytes = self.memory.len();
         let _ = writeln!(text, "family: {family}, memory: {bytes} bytes");
+        let _ = writeln!(text, "calls and replies, numbers in hexadecimal:");
         for (at, event) in self.history.events().iter().enumerate() {
             let _ = writeln!(text, "call {}: {} bytes lent", at + 1, event.lent);
             let _ = writeln!(text, "  {:x?}", event.call);
@@ -230,16 +253,16 @@ impl<'a, S: Subject> Play<'a, S> {
 
 /// What the probes write to: a memory for each of the two sessions and for
 /// rule 3, put back after each.
-struct Table {
+struct Scratch {
     base: Vec<u8>,
     arena: Arena,
     memory: Vec<u8>,
     promised: Vec<u8>,
 }
 
-impl Table {
+impl Scratch {
     fn new(base: &[u8], shift: usize) -> Self {
-        Table {
+        Scratch {
             base: base.to_vec(),
             arena: Arena::new(base, shift),
             memory: base.to_vec(),
@@ -284,7 +307,9 @@ fn ask(session: &mut Session, memory: &mut [u8], call: &Call) -> (Reply, Option<
 fn differences(wanted: &Reply, got: &Reply, memory: &[u8], arena: &Arena) -> Vec<String> {
     let mut why = Vec::new();
     if got != wanted {
-        why.push(format!("the replies differ: the reference's is {wanted:x?}"));
+        why.push(format!(
+            "the replies differ: the reference's is {wanted:x?}"
+        ));
     }
     if arena.memory() != memory {
         why.push("the memories differ".to_string());

@@ -1,366 +1,19 @@
 //! What the scripts met. Everything that can occur must be met, and nothing
 //! else may be.
 
+use super::features::Feature as F;
+use super::features::{Before, Effect, Emptying, Feature, Odd, Off, Since, Sum, Switch, Target};
+use super::play::Bytes;
 use crate::boundary::{plain_answer, CAnswer, Reply, FAULT, REFUSED, SUCCESS};
-use crate::cases::scene::Scene;
-use crate::counts::{report_families, Countable, Counts};
-use crate::random::Random;
+use crate::counts::{report_families, Counts};
 use crate::reference::{
-    bit, offset_in_memory, read_descriptor, walk, writable_clean, Access, Answer, FaultKind, Kind,
-    Regime, Walk, AF, AP2, PHYSICAL_LIMIT,
+    bit, offset_in_memory, read_descriptor, walk, writable_clean, Access, Answer, Kind, Regime,
+    Walk, AF, AP2, MEMORY_LIMIT, PHYSICAL_LIMIT,
 };
 use crate::rule3::{Checked, Class, Event, History};
-use crate::session::{page_of, place_of, Call, Session, Way, PLACES};
-use crate::tally::{level_name, End};
+use crate::session::{page_of, place_of, Call, Session, Way};
+use crate::tally::End;
 use std::collections::{BTreeMap, BTreeSet};
-use std::fmt;
-
-/// The totals that say most.
-#[derive(Clone, Copy, Debug, PartialEq, Eq, PartialOrd, Ord)]
-pub enum Sum {
-    HitSuccess,
-    HitFault,
-    Rewalk,
-    Fill,
-    Eviction,
-    NotRemembered,
-    RefusedCall,
-}
-
-/// What an accepted regime is to the session.
-#[derive(Clone, Copy, Debug, PartialEq, Eq, PartialOrd, Ord)]
-pub enum Switch {
-    First,
-    SameAgain,
-    Other,
-    /// One that stood before, with another between.
-    Back,
-}
-
-/// Where an accepted store goes.
-#[derive(Clone, Copy, Debug, PartialEq, Eq, PartialOrd, Ord)]
-pub enum Target {
-    HeldLeaf,
-    /// The leaf of more than one held page.
-    SharedLeaf,
-    HeldTable,
-    LastOfPool,
-    Elsewhere,
-}
-
-/// What a store does to the leaf of a held page.
-#[derive(Clone, Copy, Debug, PartialEq, Eq, PartialOrd, Ord)]
-pub enum Effect {
-    SetsAf,
-    ClearsAf,
-    SetsAp2,
-    ClearsAp2,
-    MakesInvalid,
-}
-
-/// Why a store is refused with 8.
-#[derive(Clone, Copy, Debug, PartialEq, Eq, PartialOrd, Ord)]
-pub enum Off {
-    Misaligned,
-    JustBefore,
-    JustBehind,
-    /// In the pool but for bits 63..48.
-    UpperBits,
-    Elsewhere,
-}
-
-/// What a place held before a walk.
-#[derive(Clone, Copy, Debug, PartialEq, Eq, PartialOrd, Ord)]
-pub enum Before {
-    Nothing,
-    OtherPage,
-    /// The page itself, with a dirty mark to come.
-    SamePage,
-}
-
-/// What came between the walk of a page and a hit.
-#[derive(Clone, Copy, Debug, PartialEq, Eq, PartialOrd, Ord)]
-pub enum Since {
-    Store,
-    RefusedStore,
-    RefusedRegime,
-    RefusedAccess,
-    /// Another page at the place, not remembered.
-    PasserBy,
-    /// A walk of the page itself, not remembered.
-    FailedRewalk,
-    /// A call with a memory of another length.
-    OtherLength,
-}
-
-/// What emptied a page's place before it is walked again.
-#[derive(Clone, Copy, Debug, PartialEq, Eq, PartialOrd, Ord)]
-pub enum Emptying {
-    DropAll,
-    SameRegime,
-    OtherRegime,
-}
-
-#[derive(Clone, Copy, Debug, PartialEq, Eq, PartialOrd, Ord)]
-pub enum Odd {
-    /// A hit on a page whose walk reads a descriptor twice.
-    ReadTwice,
-    /// A re-walk that finds the leaf dirtied through another page.
-    DirtiedElsewhere,
-    /// A hit by another address than the walk's.
-    OtherAddress,
-    /// A hit with a dirty mark to come, by a write that faults.
-    CleanFault,
-    /// A hit with a dirty mark to come, by a probe-write.
-    CleanProbe,
-}
-
-/// The bytes that a new access finds after a script.
-#[derive(Clone, Copy, Debug, PartialEq, Eq, PartialOrd, Ord)]
-pub enum Bytes {
-    Current,
-    Zeros,
-    Noise,
-}
-
-impl Bytes {
-    pub const ALL: [Bytes; 3] = [Bytes::Current, Bytes::Zeros, Bytes::Noise];
-
-    /// A memory of the same length; noise may look like tables.
-    pub fn fill(self, random: &mut Random, current: &[u8], regime: &Regime) -> Vec<u8> {
-        let mut scene = Scene {
-            memory: current.to_vec(),
-            regime: *regime,
-        };
-        match self {
-            Bytes::Current => {}
-            Bytes::Zeros => scene.memory.fill(0),
-            Bytes::Noise if random.coin() => scene.fill_random(random),
-            Bytes::Noise => scene.fill_likely(random),
-        }
-        scene.memory
-    }
-}
-
-/// One thing to meet.
-#[derive(Clone, Copy, Debug, PartialEq, Eq, PartialOrd, Ord)]
-pub enum Feature {
-    Sum(Sum),
-    /// Reply to set regime, and whether a regime stood.
-    SetRegime(bool, u8),
-    Switch(Switch),
-    Store(u8),
-    Into(Target),
-    Effect(Effect),
-    Off(Off),
-    /// Drop all, with or without a regime; with or without a page held.
-    DropAll(bool, bool),
-    Refused(u8),
-    /// A refused access of a held page.
-    RefusedHeld(u8),
-    Ended(End),
-    Hit(End, bool, Kind),
-    HitLevel(u8),
-    HitPlace(u8),
-    HitSince(Since),
-    /// A hit where the plain walk would say otherwise.
-    Stale(End),
-    Rewalk(Kind, End, bool),
-    Walked(Before, End, bool),
-    Emptied(Emptying),
-    Odd(Odd),
-    FirstHalf(bool),
-    InScript(Class),
-    After(Class, Bytes),
-    OneAnswer(u8),
-}
-
-use Feature as F;
-
-fn yes(value: bool) -> &'static str {
-    if value {
-        "with"
-    } else {
-        "without"
-    }
-}
-
-impl fmt::Display for Feature {
-    fn fmt(&self, out: &mut fmt::Formatter) -> fmt::Result {
-        match *self {
-            F::Sum(sum) => write!(out, "{sum:?}"),
-            F::SetRegime(stood, 0) => write!(out, "{} accepted", yes(stood)),
-            F::SetRegime(stood, number) => write!(out, "{} no. {number}", yes(stood)),
-            F::Switch(switch) => write!(out, "{switch:?}"),
-            F::Store(0) => write!(out, "accepted"),
-            F::Store(number) | F::Refused(number) | F::RefusedHeld(number) => {
-                write!(out, "no. {number}")
-            }
-            F::Into(target) => write!(out, "{target:?}"),
-            F::Effect(effect) => write!(out, "{effect:?}"),
-            F::Off(off) => write!(out, "{off:?}"),
-            F::DropAll(stood, held) => write!(out, "{} / {}", yes(stood), yes(held)),
-            F::Ended(end) | F::Stale(end) => write!(out, "{end}"),
-            F::Hit(end, el0, kind) => write!(out, "{end} {} {kind:?}", level_name(el0)),
-            F::HitLevel(number) | F::HitPlace(number) => write!(out, "{number}"),
-            F::HitSince(since) => write!(out, "{since:?}"),
-            F::Rewalk(kind, end, dirtied) => {
-                let mark = if dirtied { " dirty" } else { "" };
-                write!(out, "{kind:?} {end}{mark}")
-            }
-            F::Walked(before, end, remembered) => {
-                let kept = if remembered { "yes" } else { "no" };
-                write!(out, "{before:?} {end} {kept}")
-            }
-            F::Emptied(by) => write!(out, "{by:?}"),
-            F::Odd(odd) => write!(out, "{odd:?}"),
-            F::FirstHalf(said) => write!(out, "{}", if said { "said" } else { "not said" }),
-            F::InScript(class) => write!(out, "{class:?}"),
-            F::After(class, bytes) => write!(out, "{class:?} {bytes:?}"),
-            F::OneAnswer(SUCCESS) => write!(out, "success"),
-            F::OneAnswer(_) => write!(out, "fault"),
-        }
-    }
-}
-
-impl Countable for Feature {
-    fn heading(&self) -> &'static str {
-        match self {
-            F::Sum(_) => "session",
-            F::SetRegime(..) => "set regime, with and without one before",
-            F::Switch(_) => "regimes accepted",
-            F::Store(_) => "stores",
-            F::Into(_) => "stores accepted into",
-            F::Effect(_) => "stores into the leaf of a held page",
-            F::Off(_) => "stores refused with 8",
-            F::DropAll(..) => "drops, with and without a regime / a held page",
-            F::Refused(_) => "accesses refused",
-            F::RefusedHeld(_) => "accesses of a held page refused",
-            F::Ended(_) => "accesses answered",
-            F::Hit(..) => "hits",
-            F::HitLevel(_) => "hits by level",
-            F::HitPlace(_) => "hits by place",
-            F::HitSince(_) => "hits by what came since the walk",
-            F::Stale(_) => "hits where a walk would differ, by that walk",
-            F::Rewalk(..) => "re-walks",
-            F::Walked(..) => "walks by what the place held, end, and remembered or not",
-            F::Emptied(_) => "walks of a page held before an emptying",
-            F::Odd(_) => "odd",
-            F::FirstHalf(_) => "rule 3, first half",
-            F::InScript(_) => "rule 3, second half, in scripts",
-            F::After(..) => "rule 3, second half, after scripts",
-            F::OneAnswer(_) => "the one answers after scripts",
-        }
-    }
-
-    fn possible() -> BTreeSet<Self> {
-        let mut all = BTreeSet::new();
-        replies(&mut all);
-        hits(&mut all);
-        walks(&mut all);
-        all.extend([false, true].map(F::FirstHalf));
-        all.insert(F::InScript(Class::NoRegime));
-        for class in [
-            Class::OneAnswer,
-            Class::DirtyMark,
-            Class::OtherPage,
-            Class::Nothing,
-        ] {
-            all.insert(F::InScript(class));
-            all.extend(Bytes::ALL.map(|bytes| F::After(class, bytes)));
-        }
-        all.extend([SUCCESS, FAULT].map(F::OneAnswer));
-        all
-    }
-}
-
-/// Replies that can occur.
-fn replies(all: &mut BTreeSet<Feature>) {
-    all.extend([Sum::HitSuccess, Sum::HitFault, Sum::Rewalk].map(F::Sum));
-    all.extend([Sum::Fill, Sum::Eviction, Sum::NotRemembered, Sum::RefusedCall].map(F::Sum));
-    for stood in [false, true] {
-        all.extend((0..=5).map(|number| F::SetRegime(stood, number)));
-    }
-    all.extend([Switch::First, Switch::SameAgain, Switch::Other, Switch::Back].map(F::Switch));
-    all.extend([0, 1, 8, 9].map(F::Store));
-    all.extend([Target::HeldLeaf, Target::SharedLeaf, Target::HeldTable].map(F::Into));
-    all.extend([Target::LastOfPool, Target::Elsewhere].map(F::Into));
-    all.extend([Effect::SetsAf, Effect::ClearsAf, Effect::MakesInvalid].map(F::Effect));
-    all.extend([Effect::SetsAp2, Effect::ClearsAp2].map(F::Effect));
-    all.extend([Off::Misaligned, Off::JustBefore, Off::JustBehind].map(F::Off));
-    all.extend([Off::UpperBits, Off::Elsewhere].map(F::Off));
-    // Without a regime nothing is held.
-    all.extend([F::DropAll(false, false), F::DropAll(true, false)]);
-    all.insert(F::DropAll(true, true));
-    all.extend([1, 6, 7, 9].map(F::Refused));
-    all.extend([1, 6, 7].map(F::RefusedHeld));
-}
-
-const FAULTS: [FaultKind; 6] = [
-    FaultKind::AddressSize,
-    FaultKind::Translation,
-    FaultKind::AccessFlag,
-    FaultKind::Permission,
-    FaultKind::WalkAbort,
-    FaultKind::Alignment,
-];
-
-/// Answers from a place that can occur.
-fn hits(all: &mut BTreeSet<Feature>) {
-    for el0 in [false, true] {
-        for kind in Kind::ALL {
-            all.insert(F::Hit(End::Success, el0, kind));
-            // No read from EL1 is ever denied.
-            if el0 || !matches!(kind, Kind::Read | Kind::ProbeRead) {
-                all.insert(F::Hit(End::Fault(FaultKind::Permission), el0, kind));
-            }
-            if kind.moves_data() {
-                all.insert(F::Hit(End::Fault(FaultKind::Alignment), el0, kind));
-            }
-        }
-    }
-    all.extend((1..=3).map(F::HitLevel));
-    all.extend((0..PLACES as u8).map(F::HitPlace));
-    all.extend([Since::Store, Since::RefusedStore, Since::RefusedRegime].map(F::HitSince));
-    all.extend([Since::RefusedAccess, Since::PasserBy].map(F::HitSince));
-    all.extend([Since::FailedRewalk, Since::OtherLength].map(F::HitSince));
-    all.insert(F::Stale(End::Success));
-    all.extend(FAULTS.map(|kind| F::Stale(End::Fault(kind))));
-    all.extend([Odd::ReadTwice, Odd::DirtiedElsewhere, Odd::OtherAddress].map(F::Odd));
-    all.extend([Odd::CleanFault, Odd::CleanProbe].map(F::Odd));
-}
-
-/// Walks that can occur, and what they leave in the place.
-fn walks(all: &mut BTreeSet<Feature>) {
-    all.insert(F::Ended(End::Success));
-    all.extend(FAULTS.map(|kind| F::Ended(End::Fault(kind))));
-    for before in [Before::Nothing, Before::OtherPage, Before::SamePage] {
-        all.insert(F::Walked(before, End::Success, true));
-        // Only a probe succeeds without AF, and only a write walks again.
-        if before != Before::SamePage {
-            all.insert(F::Walked(before, End::Success, false));
-        }
-        for kind in FAULTS {
-            // A re-walk has HA on.
-            if kind != FaultKind::AccessFlag || before != Before::SamePage {
-                all.insert(F::Walked(before, End::Fault(kind), false));
-            }
-            if matches!(kind, FaultKind::Permission | FaultKind::Alignment) {
-                all.insert(F::Walked(before, End::Fault(kind), true));
-            }
-        }
-    }
-    for kind in [Kind::Write, Kind::Update] {
-        all.insert(F::Rewalk(kind, End::Success, true));
-        all.insert(F::Rewalk(kind, End::Success, false));
-        for fault in FAULTS {
-            if fault != FaultKind::AccessFlag {
-                all.insert(F::Rewalk(kind, End::Fault(fault), false));
-            }
-        }
-    }
-    all.extend([Emptying::DropAll, Emptying::SameRegime, Emptying::OtherRegime].map(F::Emptied));
-}
 
 #[derive(Default)]
 pub struct Tally {
@@ -392,6 +45,9 @@ impl Tally {
         if !event.is_accepted() {
             self.meet(F::Sum(Sum::RefusedCall));
         }
+        if session.places.iter().flatten().count() > 24 {
+            self.meet(F::Odd(Odd::ManyHeld));
+        }
         match (event.call, event.reply) {
             (Call::SetRegime(regime), Reply::Changed(number)) => {
                 self.meet(F::SetRegime(session.regime.is_some(), number));
@@ -416,9 +72,7 @@ impl Tally {
             }
             (Call::Access(access), Reply::Answered(answer)) => {
                 self.meet(F::FirstHalf(checked.first_half));
-                if let Some(class) = checked.class {
-                    self.meet(F::InScript(class));
-                }
+                self.meet(checked.class.map_or(F::Odd(Odd::Unsaid), F::InScript));
                 if let Some((wanted, way)) = seen {
                     self.note_access(history, session, &access, &answer, wanted, way);
                 }
@@ -520,6 +174,12 @@ impl Tally {
         let end = match wanted {
             Answer::Refused(_) => {
                 self.meet(F::Refused(answer.refusal));
+                let lent = history.events().last().map_or(0, |event| event.lent);
+                match answer.refusal {
+                    9 if lent > MEMORY_LIMIT => self.meet(F::Odd(Odd::NineBeforeOne)),
+                    1 if lent > MEMORY_LIMIT => self.meet(F::Odd(Odd::TooLong)),
+                    _ => {}
+                }
                 if held.is_some() {
                     self.meet(F::RefusedHeld(answer.refusal));
                 }
@@ -581,9 +241,6 @@ impl Tally {
         };
         let mut since = BTreeSet::new();
         for event in &events[walked + 1..at] {
-            if event.lent != events[at].lent {
-                since.insert(Since::OtherLength);
-            }
             match (event.call, event.is_accepted()) {
                 (Call::Store { .. }, true) => since.insert(Since::Store),
                 (Call::Store { .. }, false) => since.insert(Since::RefusedStore),
@@ -609,6 +266,9 @@ impl Tally {
             if first.address != access.address {
                 self.meet(F::Odd(Odd::OtherAddress));
             }
+        }
+        if events[walked].lent != events[at].lent {
+            self.meet(F::Odd(Odd::OtherLength));
         }
 
         let Some(regime) = session.regime else { return };
@@ -678,7 +338,7 @@ impl Tally {
 
     /// All counts. True if nothing is missing and nothing strange.
     pub fn report(&self) -> bool {
-        report_families(&self.families);
+        report_families("scripts", &self.families);
         self.met.report()
     }
 

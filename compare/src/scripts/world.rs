@@ -9,6 +9,7 @@ use crate::reference::{
     first_level, lowest_index_bit, refusal_of_regime, Regime, ADDRESS_FIELD, AF, AP1, AP2, DBM,
     GRANULE, MEMORY_LIMIT,
 };
+use crate::session::PLACES;
 
 /// Entries in a table below the first one.
 const ENTRIES: u64 = GRANULE / 8;
@@ -78,10 +79,24 @@ impl Tree {
             tree.trunk[level] = scene.draw_index(random, range, level);
         }
         scene.regime.ranges[range].root = tree.tables[first];
-        for level in first..3 {
-            tree.point(random, scene, level, tree.trunk[level], level + 1);
-        }
+        tree.lay_trunk(random, scene);
         tree
+    }
+
+    fn lay_trunk(&self, random: &mut Random, scene: &mut Scene) {
+        for level in self.first..3 {
+            self.point(random, scene, level, self.trunk[level], level + 1);
+        }
+    }
+
+    /// All there is beside the trunk, and the pages it translates.
+    fn lay(&self, random: &mut Random, scene: &mut Scene, pages: &mut Vec<u64>) {
+        self.lay_aliases(random, scene, pages);
+        self.lay_blocks(random, scene, pages);
+        self.lay_loop(random, scene, pages);
+        self.lay_pages(random, scene, pages);
+        // Once more, as the rest may have fallen on it.
+        self.lay_trunk(random, scene);
     }
 
     /// Makes an entry a table descriptor for the table of another level.
@@ -259,42 +274,33 @@ impl World {
         let least = random.pick(&[1, 2, 4, 4, 4]);
         let mut scene = draw_scene(random, least, leaves);
         let mut pages = Vec::new();
-        let both = random.coin();
-        for range in 0..2 {
-            if range == 1 && both {
-                scene.regime.ranges[1] = scene.regime.ranges[0];
-                let span = 64 - u32::from(scene.regime.ranges[0].t);
-                let upper = |page: &u64| page | u64::MAX << span;
-                let mirrored: Vec<u64> = pages.iter().map(upper).collect();
-                pages.extend(mirrored);
-                break;
-            }
-            let tree = Tree::draw(random, &mut scene, range, leaves);
-            tree.lay_aliases(random, &mut scene, &mut pages);
-            tree.lay_blocks(random, &mut scene, &mut pages);
-            tree.lay_loop(random, &mut scene, &mut pages);
-            tree.lay_pages(random, &mut scene, &mut pages);
-            // Once more, as the rest may have fallen on it.
-            for level in tree.first..3 {
-                tree.point(random, &mut scene, level, tree.trunk[level], level + 1);
-            }
+        Tree::draw(random, &mut scene, 0, leaves).lay(random, &mut scene, &mut pages);
+        if random.coin() {
+            Tree::draw(random, &mut scene, 1, leaves).lay(random, &mut scene, &mut pages);
+        } else {
+            scene.regime.ranges[1] = scene.regime.ranges[0];
+            let span = 64 - u32::from(scene.regime.ranges[0].t);
+            let upper = |page: &u64| page | u64::MAX << span;
+            let mirrored: Vec<u64> = pages.iter().map(upper).collect();
+            pages.extend(mirrored);
         }
         finish(random, scene, pages)
     }
 
-    /// Many pages over all places, in one table or one block.
+    /// A page for each place, in one table or one block.
     pub fn wide(random: &mut Random) -> World {
         let mut scene = draw_scene(random, 4, Leaves::Mixed);
         let range = random.below(2) as usize;
         scene.regime.ranges[range].disabled = false;
-        let tree = Tree::draw(random, &mut scene, range, Leaves::Mixed);
+        let leaves = random.pick(&[Leaves::Mixed, Leaves::Clean]);
+        let tree = Tree::draw(random, &mut scene, range, leaves);
         let mut pages = Vec::new();
         let block = random.coin();
         if block {
             tree.put_leaf(random, &mut scene, 2, tree.trunk[2]);
         }
-        for _ in 0..96 {
-            let index = random.below(ENTRIES);
+        for place in 0..PLACES as u64 {
+            let index = place + PLACES as u64 * random.below(8);
             if !block {
                 tree.put_leaf(random, &mut scene, 3, index);
             }
@@ -318,8 +324,8 @@ impl World {
             let span = 64 - u32::from(scene.regime.ranges[range].t);
             let upper = if range == 1 { u64::MAX << span } else { 0 };
             let page = random.bits() & ((1 << span) - 1) & !(GRANULE - 1);
-            pages.push(upper | page);
-            pages.push(upper | page ^ (64 << random.below(6)) * GRANULE);
+            let beside = page ^ (PLACES as u64 * GRANULE) << random.below(6);
+            pages.extend([upper | page, upper | beside]);
         }
         finish(random, scene, pages)
     }

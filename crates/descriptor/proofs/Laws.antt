@@ -7,6 +7,10 @@ use mathlib.Core.Logic.{_⊎_, inl, inr}
 use native.Mathlib.Omega.{arith}
 use lib.ListN.{length, getD, take, drop, set, length-append, length-take, length-drop, take-append-drop, List·getD-append}
 use lib.Seq.{drop-cons, sets, sets-eq, drop-drop, take-at, drop-at, length-take-le, getD-take, getD-drop, getD-append-add, take-append-add, drop-append-add, take-append-le, drop-append-le}
+use mathlib.Core.Bool.{Bool, true, false}
+use lib.Dec.{eqb, ltb}
+use borrow.Author.Tests.{eqb-true, eqb-false, ltb-true, ltb-false}
+use Rattle.descriptor.specs.Bits.{pick}
 use Rattle.descriptor.specs.Bytes.{number, digits, valueOf, bytesOf, desc, put}
 
 -- ---- what the code reads
@@ -119,6 +123,18 @@ desc-ext l m j h e same =
 pub desc-put-other : (l : List ℕ) (i j v : ℕ) → i + 8 ≤ length l → j + 8 ≤ length l → (j + 8 ≤ i) ⊎ (i + 8 ≤ j) → desc (put l i v) j ≡ desc l j
 desc-put-other l i j v p q (inl h) = desc-ext l (put l i v) j q (length-put l i v p) (λ k a b. getD-put-before l i v p k (omega arith))
 desc-put-other l i j v p q (inr h) = desc-ext l (put l i v) j q (length-put l i v p) (λ k a b. getD-put-after l i v p k (omega arith))
+
+-- read after write at multiples of 8, as one equation
+pub desc-put-aligned : (l : List ℕ) (i v j : ℕ) → i % 8 ≡ 0 → j % 8 ≡ 0 → i + 8 ≤ length l → j + 8 ≤ length l → v < 2 ^ 64 → desc (put l i v) j ≡ pick (eqb i j) v (desc l j)
+desc-put-aligned l i v j ai aj hi hj hv = by (eqb i j) refl
+  where
+    apart : (b : Bool) → ltb i j ≡ b → (i ≡ j → ⊥) → (j + 8 ≤ i) ⊎ (i + 8 ≤ j)
+    apart true e n = inr (let p : i < j = ltb-true i j e in omega arith)
+    apart false e n = inl (let p : j ≤ i = ltb-false i j e in omega arith)
+
+    by : (b : Bool) → eqb i j ≡ b → desc (put l i v) j ≡ pick b v (desc l j)
+    by true e = rw (← eqb-true i j e) (desc-put l i v hi hv)
+    by false e = desc-put-other l i j v hi hj (apart (ltb i j) refl (eqb-false i j e))
 
 -- ---- a part of a memory
 

@@ -140,7 +140,7 @@ cut-from v n h =
     let e : n ≡ 12 + (n - 12) = omega arith in
     ap (λ (j : ℕ). v / 2 ^ j) e ∙ sym (shr-shr v 12 (n - 12))
 
-cut-same : (v w n : ℕ) → 12 ≤ n → v % addressLimit / 4096 ≡ w % addressLimit / 4096 → cut v (2 ^ n) ≡ cut w (2 ^ n)
+pub cut-same : (v w n : ℕ) → 12 ≤ n → v % addressLimit / 4096 ≡ w % addressLimit / 4096 → cut v (2 ^ n) ≡ cut w (2 ^ n)
 unfolding cut
 cut-same v w n h e = rw (cut-from (v % addressLimit) n h, cut-from (w % addressLimit) n h, e)
 

@@ -1,8 +1,8 @@
 -- Facts of any lookup, over any reader: how many descriptors it visits, and what holds of a leaf that it reaches.
 use Prim.Native.Nat.{ℕ, zero, suc, _+_, _*_, _-_, _/_, _%_, _^_, _<_, _≤_, zero-le, suc-le-suc}
 use mathlib.Core.Bool.{Bool, true, false, not, _&&_, _||_}
-use mathlib.Core.List.{List}
-use mathlib.Core.Path.{_≡_, refl, sym, ap, _∙_}
+use mathlib.Core.List.{List, _∷_}
+use mathlib.Core.Path.{_≡_, refl, sym, ap, subst, _∙_}
 use native.Mathlib.Omega.{arith}
 use lib.Dec.{leb, eqb}
 use lib.ListN.{length}
@@ -70,6 +70,38 @@ locate-visited r read a z =
     omega arith) in
     pick-both short (range .disabled || outside (range .tsz) a) (ended (fault Translation 0)) (pick beyond (ended (fault AddressSize 0)) deep) zero-le
     (pick-both short beyond (ended (fault AddressSize 0)) deep zero-le h)
+
+-- a leaf takes a read
+abbrev ReadOnce : Trace → End → Type 0
+ReadOnce t (fault kind level) = Unit {0}
+ReadOnce t (leaf a v left) = 1 ≤ length (t .visited)
+
+read-once : (c : Context) (read : ℕ → Word) (n t : ℕ) → ReadOnce (descend c read (suc n) t) (descend c read (suc n) t .end)
+unfolding descend entered
+read-once c read n t = by (onWord (ended (fault ExternalAbort (levelOf n))) (followed c (descend c read n) n (entryAt c n t)) (read (entryAt c n t)))
+  where
+    by-end : (l : List ℕ) (e : End) → ReadOnce (record { visited = entryAt c n t ∷ l; end = e }) e
+    by-end l (fault kind level) = tt
+    by-end l (leaf a v left) = suc-le-suc zero-le
+
+    by : (u : Trace) → ReadOnce (record { visited = entryAt c n t ∷ u .visited; end = u .end }) (u .end)
+    by u = by-end (u .visited) (u .end)
+
+pub locate-read : (r : Regime) (read : ℕ → Word) (a : ℕ) {at v left : ℕ} → locate r read a .end ≡ leaf at v left → 1 ≤ length (locate r read a .visited)
+unfolding locate
+locate-read r read a {at} {v} {left} q = subst (ReadOnce (locate r read a)) q (once r read a)
+  where
+    picked : (off beyond : Bool) (t : Trace) → ReadOnce t (t .end)
+        → ReadOnce (pick off (ended (fault Translation 0)) (pick beyond (ended (fault AddressSize 0)) t)) (pick off (ended (fault Translation 0)) (pick beyond (ended (fault AddressSize 0)) t) .end)
+    picked true beyond t h = tt
+    picked false true t h = tt
+    picked false false t h = h
+
+    once : (r : Regime) (read : ℕ → Word) (a : ℕ) → ReadOnce (locate r read a) (locate r read a .end)
+    once r read a =
+        let range = rangeOf r a in
+        picked (range .disabled || outside (range .tsz) a) (leb (outputLimit (r .output)) (range .root .0))
+        (descend (contextOf r a) read (suc (firstLeft pageBits (range .tsz))) (range .root .0)) (read-once (contextOf r a) read (firstLeft pageBits (range .tsz)) (range .root .0))
 
 -- ---- a leaf that is reached
 

@@ -1,1 +1,4 @@
--- laws
+pub mod Coherence
+pub mod Agreement
+pub mod Memory
+pub mod Final

@@ -90,7 +90,7 @@ pub record Storable (n : ℕ) (pool : Pool) (address : ℕ) : Type 0 where
   pub least : pool .address .0 ≤ address
   pub most : address + 8 ≤ pool .address .0 + pool .length
 
-storable-by : (pool : Pool) (address : ℕ) → storeAddressBad pool address ≡ false → (address % 8 ≡ 0) × (pool .address .0 ≤ address) × (address + 8 ≤ pool .address .0 + pool .length)
+pub storable-by : (pool : Pool) (address : ℕ) → storeAddressBad pool address ≡ false → (address % 8 ≡ 0) × (pool .address .0 ≤ address) × (address + 8 ≤ pool .address .0 + pool .length)
 unfolding storeAddressBad
 storable-by pool address e =
     let t1 = not (eqb (address % 8) 0) in

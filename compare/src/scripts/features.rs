@@ -1,0 +1,363 @@
+//! What scripts can meet.
+
+use super::play::Bytes;
+use crate::boundary::{FAULT, SUCCESS};
+use crate::counts::Countable;
+use crate::reference::{FaultKind, Kind};
+use crate::rule3::Class;
+use crate::session::PLACES;
+use crate::tally::{level_name, End};
+use std::collections::BTreeSet;
+use std::fmt;
+
+/// The totals that say most.
+#[derive(Clone, Copy, Debug, PartialEq, Eq, PartialOrd, Ord)]
+pub enum Sum {
+    HitSuccess,
+    HitFault,
+    Rewalk,
+    Fill,
+    Eviction,
+    NotRemembered,
+    RefusedCall,
+}
+
+/// What an accepted regime is to the session.
+#[derive(Clone, Copy, Debug, PartialEq, Eq, PartialOrd, Ord)]
+pub enum Switch {
+    First,
+    SameAgain,
+    Other,
+    /// One that stood before, with another between.
+    Back,
+}
+
+/// Where an accepted store goes.
+#[derive(Clone, Copy, Debug, PartialEq, Eq, PartialOrd, Ord)]
+pub enum Target {
+    HeldLeaf,
+    /// The leaf of more than one held page.
+    SharedLeaf,
+    HeldTable,
+    LastOfPool,
+    Elsewhere,
+}
+
+/// What a store does to the leaf of a held page.
+#[derive(Clone, Copy, Debug, PartialEq, Eq, PartialOrd, Ord)]
+pub enum Effect {
+    SetsAf,
+    ClearsAf,
+    SetsAp2,
+    ClearsAp2,
+    MakesInvalid,
+}
+
+/// Why a store is refused with 8.
+#[derive(Clone, Copy, Debug, PartialEq, Eq, PartialOrd, Ord)]
+pub enum Off {
+    Misaligned,
+    JustBefore,
+    JustBehind,
+    /// In the pool but for bits 63..48.
+    UpperBits,
+    Elsewhere,
+}
+
+/// What a place held before a walk.
+#[derive(Clone, Copy, Debug, PartialEq, Eq, PartialOrd, Ord)]
+pub enum Before {
+    Nothing,
+    OtherPage,
+    /// The page itself, with a dirty mark to come.
+    SamePage,
+}
+
+/// What came between the walk of a page and a hit.
+#[derive(Clone, Copy, Debug, PartialEq, Eq, PartialOrd, Ord)]
+pub enum Since {
+    Store,
+    RefusedStore,
+    RefusedRegime,
+    RefusedAccess,
+    /// Another page at the place, not remembered.
+    PasserBy,
+    /// A walk of the page itself, not remembered.
+    FailedRewalk,
+}
+
+/// What emptied a page's place before it is walked again.
+#[derive(Clone, Copy, Debug, PartialEq, Eq, PartialOrd, Ord)]
+pub enum Emptying {
+    DropAll,
+    SameRegime,
+    OtherRegime,
+}
+
+#[derive(Clone, Copy, Debug, PartialEq, Eq, PartialOrd, Ord)]
+pub enum Odd {
+    /// A hit on a page whose walk reads a descriptor twice.
+    ReadTwice,
+    /// A re-walk that finds the leaf dirtied through another page.
+    DirtiedElsewhere,
+    /// A hit by another address than the walk's.
+    OtherAddress,
+    /// A hit with a dirty mark to come, by a write that faults.
+    CleanFault,
+    /// A hit with a dirty mark to come, by a probe-write.
+    CleanProbe,
+    /// More than 24 places hold a page.
+    ManyHeld,
+    /// Refused with 9, over a memory above its limit.
+    NineBeforeOne,
+    /// Refused with 1 for a memory above its limit.
+    TooLong,
+    /// A hit over a memory of another length than its walk's.
+    OtherLength,
+    /// An access of which the second half says nothing, for that reason.
+    Unsaid,
+}
+
+/// One thing to meet.
+#[derive(Clone, Copy, Debug, PartialEq, Eq, PartialOrd, Ord)]
+pub enum Feature {
+    Sum(Sum),
+    /// Reply to set regime, and whether a regime stood.
+    SetRegime(bool, u8),
+    Switch(Switch),
+    Store(u8),
+    Into(Target),
+    Effect(Effect),
+    Off(Off),
+    /// Drop all, with or without a regime; with or without a page held.
+    DropAll(bool, bool),
+    Refused(u8),
+    /// A refused access of a held page.
+    RefusedHeld(u8),
+    Ended(End),
+    Hit(End, bool, Kind),
+    HitLevel(u8),
+    HitPlace(u8),
+    HitSince(Since),
+    /// A hit where the plain walk would say otherwise.
+    Stale(End),
+    Rewalk(Kind, End, bool),
+    Walked(Before, End, bool),
+    Emptied(Emptying),
+    Odd(Odd),
+    FirstHalf(bool),
+    InScript(Class),
+    After(Class, Bytes),
+    OneAnswer(u8),
+}
+
+use Feature as F;
+
+fn yes(value: bool) -> &'static str {
+    if value {
+        "with"
+    } else {
+        "without"
+    }
+}
+
+impl fmt::Display for Feature {
+    fn fmt(&self, out: &mut fmt::Formatter) -> fmt::Result {
+        match *self {
+            F::Sum(sum) => write!(out, "{sum:?}"),
+            F::SetRegime(stood, 0) => write!(out, "{} accepted", yes(stood)),
+            F::SetRegime(stood, number) => write!(out, "{} no. {number}", yes(stood)),
+            F::Switch(switch) => write!(out, "{switch:?}"),
+            F::Store(0) => write!(out, "accepted"),
+            F::Store(number) | F::Refused(number) | F::RefusedHeld(number) => {
+                write!(out, "no. {number}")
+            }
+            F::Into(target) => write!(out, "{target:?}"),
+            F::Effect(effect) => write!(out, "{effect:?}"),
+            F::Off(off) => write!(out, "{off:?}"),
+            F::DropAll(stood, held) => write!(out, "{} / {}", yes(stood), yes(held)),
+            F::Ended(end) | F::Stale(end) => write!(out, "{end}"),
+            F::Hit(end, el0, kind) => write!(out, "{end} {} {kind:?}", level_name(el0)),
+            F::HitLevel(number) | F::HitPlace(number) => write!(out, "{number}"),
+            F::HitSince(since) => write!(out, "{since:?}"),
+            F::Rewalk(kind, end, dirtied) => {
+                let mark = if dirtied { " dirty" } else { "" };
+                write!(out, "{kind:?} {end}{mark}")
+            }
+            F::Walked(before, end, remembered) => {
+                let kept = if remembered { "yes" } else { "no" };
+                write!(out, "{before:?} {end} {kept}")
+            }
+            F::Emptied(by) => write!(out, "{by:?}"),
+            F::Odd(odd) => write!(out, "{odd:?}"),
+            F::FirstHalf(said) => write!(out, "{}", if said { "said" } else { "not said" }),
+            F::InScript(class) => write!(out, "{class:?}"),
+            F::After(class, bytes) => write!(out, "{class:?} {bytes:?}"),
+            F::OneAnswer(SUCCESS) => write!(out, "success"),
+            F::OneAnswer(_) => write!(out, "fault"),
+        }
+    }
+}
+
+impl Countable for Feature {
+    fn heading(&self) -> &'static str {
+        match self {
+            F::Sum(_) => "session",
+            F::SetRegime(..) => "set regime, with and without one before",
+            F::Switch(_) => "regimes accepted",
+            F::Store(_) => "stores",
+            F::Into(_) => "stores accepted into",
+            F::Effect(_) => "stores into the leaf of a held page",
+            F::Off(_) => "stores refused with 8",
+            F::DropAll(..) => "drops, with and without a regime / a held page",
+            F::Refused(_) => "accesses refused",
+            F::RefusedHeld(_) => "accesses of a held page refused",
+            F::Ended(_) => "accesses answered",
+            F::Hit(..) => "hits",
+            F::HitLevel(_) => "hits by level",
+            F::HitPlace(_) => "hits by place",
+            F::HitSince(_) => "hits by what came since the walk",
+            F::Stale(_) => "hits where a walk would differ, by that walk",
+            F::Rewalk(..) => "re-walks",
+            F::Walked(..) => "walks by what the place held, end, and remembered or not",
+            F::Emptied(_) => "walks of a page held before an emptying",
+            F::Odd(_) => "odd",
+            F::FirstHalf(_) => "rule 3, first half",
+            F::InScript(_) => "rule 3, second half, in scripts",
+            F::After(..) => "rule 3, second half, after scripts",
+            F::OneAnswer(_) => "the one answers after scripts",
+        }
+    }
+
+    fn possible() -> BTreeSet<Self> {
+        let mut all = BTreeSet::new();
+        replies(&mut all);
+        hits(&mut all);
+        walks(&mut all);
+        all.extend([false, true].map(F::FirstHalf));
+        all.insert(F::InScript(Class::NoRegime));
+        for class in [
+            Class::OneAnswer,
+            Class::DirtyMark,
+            Class::OtherPage,
+            Class::Nothing,
+        ] {
+            all.insert(F::InScript(class));
+            all.extend(Bytes::ALL.map(|bytes| F::After(class, bytes)));
+        }
+        all.extend([SUCCESS, FAULT].map(F::OneAnswer));
+        all
+    }
+}
+
+/// Replies that can occur.
+fn replies(all: &mut BTreeSet<Feature>) {
+    all.extend([Sum::HitSuccess, Sum::HitFault, Sum::Rewalk].map(F::Sum));
+    all.extend(
+        [
+            Sum::Fill,
+            Sum::Eviction,
+            Sum::NotRemembered,
+            Sum::RefusedCall,
+        ]
+        .map(F::Sum),
+    );
+    for stood in [false, true] {
+        all.extend((0..=5).map(|number| F::SetRegime(stood, number)));
+    }
+    all.extend(
+        [
+            Switch::First,
+            Switch::SameAgain,
+            Switch::Other,
+            Switch::Back,
+        ]
+        .map(F::Switch),
+    );
+    all.extend([0, 1, 8, 9].map(F::Store));
+    all.extend([Target::HeldLeaf, Target::SharedLeaf, Target::HeldTable].map(F::Into));
+    all.extend([Target::LastOfPool, Target::Elsewhere].map(F::Into));
+    all.extend([Effect::SetsAf, Effect::ClearsAf, Effect::MakesInvalid].map(F::Effect));
+    all.extend([Effect::SetsAp2, Effect::ClearsAp2].map(F::Effect));
+    all.extend([Off::Misaligned, Off::JustBefore, Off::JustBehind].map(F::Off));
+    all.extend([Off::UpperBits, Off::Elsewhere].map(F::Off));
+    // Without a regime nothing is held.
+    all.extend([F::DropAll(false, false), F::DropAll(true, false)]);
+    all.insert(F::DropAll(true, true));
+    all.extend([1, 6, 7, 9].map(F::Refused));
+    all.extend([1, 6, 7].map(F::RefusedHeld));
+}
+
+const FAULTS: [FaultKind; 6] = [
+    FaultKind::AddressSize,
+    FaultKind::Translation,
+    FaultKind::AccessFlag,
+    FaultKind::Permission,
+    FaultKind::WalkAbort,
+    FaultKind::Alignment,
+];
+
+/// Answers from a place that can occur.
+fn hits(all: &mut BTreeSet<Feature>) {
+    for el0 in [false, true] {
+        for kind in Kind::ALL {
+            all.insert(F::Hit(End::Success, el0, kind));
+            // No read from EL1 is ever denied.
+            if el0 || !matches!(kind, Kind::Read | Kind::ProbeRead) {
+                all.insert(F::Hit(End::Fault(FaultKind::Permission), el0, kind));
+            }
+            if kind.moves_data() {
+                all.insert(F::Hit(End::Fault(FaultKind::Alignment), el0, kind));
+            }
+        }
+    }
+    all.extend((1..=3).map(F::HitLevel));
+    all.extend((0..PLACES as u8).map(F::HitPlace));
+    all.extend([Since::Store, Since::RefusedStore, Since::RefusedRegime].map(F::HitSince));
+    all.extend([Since::RefusedAccess, Since::PasserBy, Since::FailedRewalk].map(F::HitSince));
+    all.insert(F::Stale(End::Success));
+    all.extend(FAULTS.map(|kind| F::Stale(End::Fault(kind))));
+    all.extend([Odd::ReadTwice, Odd::DirtiedElsewhere, Odd::OtherAddress].map(F::Odd));
+    all.extend([Odd::CleanFault, Odd::CleanProbe, Odd::ManyHeld].map(F::Odd));
+    all.extend([Odd::NineBeforeOne, Odd::TooLong].map(F::Odd));
+    all.extend([Odd::OtherLength, Odd::Unsaid].map(F::Odd));
+}
+
+/// Walks that can occur, and what they leave in the place.
+fn walks(all: &mut BTreeSet<Feature>) {
+    all.insert(F::Ended(End::Success));
+    all.extend(FAULTS.map(|kind| F::Ended(End::Fault(kind))));
+    for before in [Before::Nothing, Before::OtherPage, Before::SamePage] {
+        all.insert(F::Walked(before, End::Success, true));
+        // Only a probe succeeds without AF, and only a write walks again.
+        if before != Before::SamePage {
+            all.insert(F::Walked(before, End::Success, false));
+        }
+        for kind in FAULTS {
+            // A re-walk has HA on.
+            if kind != FaultKind::AccessFlag || before != Before::SamePage {
+                all.insert(F::Walked(before, End::Fault(kind), false));
+            }
+            if matches!(kind, FaultKind::Permission | FaultKind::Alignment) {
+                all.insert(F::Walked(before, End::Fault(kind), true));
+            }
+        }
+    }
+    for kind in [Kind::Write, Kind::Update] {
+        all.insert(F::Rewalk(kind, End::Success, true));
+        all.insert(F::Rewalk(kind, End::Success, false));
+        for fault in FAULTS {
+            if fault != FaultKind::AccessFlag {
+                all.insert(F::Rewalk(kind, End::Fault(fault), false));
+            }
+        }
+    }
+    all.extend(
+        [
+            Emptying::DropAll,
+            Emptying::SameRegime,
+            Emptying::OtherRegime,
+        ]
+        .map(F::Emptied),
+    );
+}

@@ -1,0 +1,136 @@
+-- Rule 3 of the walk of 01, and of the real functions.
+use Prim.Native.Nat.{ℕ, _+_, _-_, _≤_}
+use mathlib.Core.Bool.{Bool, true, false}
+use mathlib.Core.List.{List, [], _∷_, _++_}
+use mathlib.Core.Path.{_≡_, refl, sym, ap, ap₂, subst, _∙_}
+use native.Mathlib.Omega.{arith}
+use lib.ListN.{length}
+use Rattle.descriptor.specs.Bytes.{Bytes}
+use Rattle.descriptor.specs.Bits.{pick}
+use Rattle.descriptor.proofs.Laws.{length-bytes}
+use Rattle.descriptor.proofs.Numbers.{bytes-bytes}
+use Rattle.vmsa.specs.declared.Regime.{Regime}
+use Rattle.vmsa.specs.declared.Access.{Access}
+use Rattle.checks.specs.declared.Checked.{Checked}
+use Rattle.checks.specs.declared.Checked.the-variants.{Accepted, Refused}
+use Rattle.checks.specs.Order.{firstOf, memoryRows, settingRows, regimeRows, accessRows, storeRows, walkCheck, sessionStoreCheck}
+use Rattle.walk.specs.Walk.{Outcome, checked, walk}
+use Rattle.walk.proofs.Ends.{ready}
+use Rattle.session.specs.declared.Session.{Session as SessionStruct}
+use Rattle.session.specs.Replies.{replyOf}
+use Rattle.session.specs.Model.{Walked, andThen, walked, Session, Stepped, fresh, Call, setRegime, access, store, dropAll, call}
+use Rattle.session.specs.Ours.{offsetOf, ours}
+use Rattle.session.specs.View.{sessionView, stepped}
+use Rattle.session.proofs.Walking.{first-append, walkedPool, walked-pool}
+use Rattle.session.proofs.Calls.{Storable, store-accepted}
+use Rattle.rule3.specs.Events.{Event, World, start, run, isDone, empties, asksDrop, settled, isDrop, dropped}
+use Rattle.rule3.specs.Rule3.{Told, plainly, Rule3}
+use Rattle.rule3.specs.Lawful.{unlessRefused, Lawful}
+use Rattle.rule3.specs.Code.{Calls, none-yet, more}
+use Rattle.rule3.proofs.Coherence.{Inv, step, begin, claim, rule3}
+use Rattle.rule3.proofs.Agreement.{unmarked, quiet, Agree, agree-self, agree-same, agree-still, agree-mark}
+use Rattle.rule3.proofs.Memory.{reads, one, marks, leaf-room, accepted-usable}
+
+-- ---- the plain walk is its checks, and then the walk
+
+then-assoc : (x y z : Checked) → andThen (andThen x y) z ≡ andThen x (andThen y z)
+then-assoc Accepted y z = refl
+then-assoc (Refused k) y z = refl
+
+checks-of : (r : Regime) (n : ℕ) (a : Access)
+    → walkCheck n r a ≡ andThen (firstOf (memoryRows n (r .pool))) (andThen (firstOf (settingRows r)) (firstOf (accessRows a)))
+unfolding walkCheck
+checks-of r n a =
+    first-append (regimeRows n r) (accessRows a) ∙ ap (λ (x : Checked). andThen x (firstOf (accessRows a))) (first-append (memoryRows n (r .pool)) (settingRows r))
+    ∙ then-assoc (firstOf (memoryRows n (r .pool))) (firstOf (settingRows r)) (firstOf (accessRows a))
+
+settings-passed : (x y z : Checked) → andThen x (andThen y z) ≡ Accepted → y ≡ Accepted
+settings-passed Accepted Accepted z q = refl
+settings-passed Accepted (Refused k) z q = q
+settings-passed (Refused k) y z q = cc
+
+plain-by : (r : Regime) (m : List ℕ) (a : Access) (c : Checked) → walkCheck (length m) r a ≡ c
+    → _≡_ {A = Told} (record { reply = replyOf (checked r a m c .result); memory = checked r a m c .bytes }) (unlessRefused c m (walked ours r m a))
+plain-by r m a (Refused x) e = refl
+plain-by r m a Accepted e =
+    let h = ready (length m) r a e in
+    let u = accepted-usable r (settings-passed (firstOf (memoryRows (length m) (r .pool))) (firstOf (settingRows r)) (firstOf (accessRows a)) (sym (checks-of r (length m) a) ∙ e)) in
+    sym (ap (λ (w : Walked). record { reply = w .reply; memory = w .memory }) (walked-pool r m a (h .sized) (h .root) (h .fits) u))
+
+plain-walk : (r : Regime) (m : List ℕ) (a : Access)
+    → plainly ours r m a ≡ unlessRefused (andThen (firstOf (memoryRows (length m) (r .pool))) (andThen (firstOf (settingRows r)) (firstOf (accessRows a)))) m (walked ours r m a)
+unfolding walk
+plain-walk r m a =
+    plain-by r m a (walkCheck (length m) r a) refl ∙ ap (λ (c : Checked). unlessRefused c m (walked ours r m a)) (checks-of r (length m) a)
+
+-- ---- an accepted store lies in the memory
+
+store-check : (r : Regime) (n address : ℕ) → firstOf (memoryRows n (r .pool)) ≡ Accepted → firstOf (storeRows (r .pool) address) ≡ Accepted
+    → sessionStoreCheck n (r .pool) address ≡ Accepted
+unfolding sessionStoreCheck
+store-check r n address e f = first-append (memoryRows n (r .pool)) (storeRows (r .pool) address) ∙ ap₂ andThen e f
+
+room : (r : Regime) (n address : ℕ) → firstOf (memoryRows n (r .pool)) ≡ Accepted → firstOf (storeRows (r .pool) address) ≡ Accepted → offsetOf r address + 8 ≤ n
+room r n address e f =
+    let h = store-accepted n (r .pool) address (store-check r n address e f) in
+    omega (arith, h .fits, h .least, h .most)
+
+-- ---- the walk of 01 keeps the laws
+
+pub lawful : Lawful ours
+lawful =
+    record {
+      plain-walk = plain-walk;
+      room = room;
+      leaf-room = leaf-room;
+      word-length = λ r v. length-bytes v;
+      word-bytes = λ r v. bytes-bytes v;
+      reads = reads;
+      one = one;
+      marks = λ r m s q a {at} {u} {n} e h p. marks r m s q (ours .judge r u a) e p;
+      unmarked = unmarked;
+      quiet = quiet;
+      Agree = Agree;
+      agree-self = agree-self;
+      agree-same = agree-same;
+      agree-still = agree-still;
+      agree-mark = agree-mark;
+    }
+
+-- rule 3: for every list of calls, from the fresh session over a memory of any length and bytes
+pub rule-3 : (calls : List Call) (memory : List ℕ) → Bytes memory → Rule3 ours (run ours (start memory) calls)
+rule-3 = rule3 ours lawful
+
+-- ---- the real functions
+
+calls-inv : (m₀ : List ℕ) → Bytes m₀ → {s : SessionStruct} {m : List ℕ} {past : List Event} → Calls m₀ s m past → Inv ours lawful (sessionView s) m past
+calls-inv m₀ b (none-yet s e) = subst (λ (x : Session). Inv ours lawful x m₀ []) (sym e) (begin ours lawful m₀ b)
+calls-inv m₀ b (more {s = s} {m = m} {past = past} c after left reply before e) =
+    subst (λ (x : Stepped). Inv ours lawful (x .session) (x .memory) (record { made = c; reply = x .reply; found = m; left = x .memory } ∷ past)) (sym e)
+    (step ours lawful (sessionView s) m past (calls-inv m₀ b before) c)
+
+-- any calls of the real functions, by their contracts, have the property
+pub rule-3-code : (m₀ : List ℕ) → Bytes m₀ → {s : SessionStruct} {m : List ℕ} {past : List Event} → Calls m₀ s m past
+    → Rule3 ours (record { session = sessionView s; memory = m; past = past })
+rule-3-code m₀ b {s} {m} {past} calls = claim ours lawful (sessionView s) m past (calls-inv m₀ b calls)
+
+-- ---- the customer's word "drop": it is one way to be settled
+
+settled-by : (e : Event) (c : Call) (x y : Bool) → (x ≡ true → y ≡ true) → pick (isDrop c) true (pick (asksDrop e c) false x) ≡ true
+    → pick (empties c (e .reply)) true (pick (asksDrop e c) false y) ≡ true
+settled-by e (setRegime r) x y h k = by (isDone (e .reply))
+  where
+    by : (b : Bool) → pick b true y ≡ true
+    by true = refl
+    by false = h k
+settled-by e (access a) x y h k = h k
+settled-by e (store address value) x y h k = by (isDone (e .reply)) k
+  where
+    by : (b : Bool) → pick b false x ≡ true → pick b false y ≡ true
+    by true k = k
+    by false k = h k
+settled-by e dropAll x y h k = refl
+
+pub drop-settles : (past : List Event) → dropped past ≡ true → settled past ≡ true
+drop-settles [] h = refl
+drop-settles (e ∷ before) h = settled-by e (e .made) (dropped before) (settled before) (drop-settles before) h

@@ -1,0 +1,264 @@
+-- The lookups of a session over its memory: where a leaf is found, and what an update of one descriptor does to every lookup.
+use Prim.Native.Nat.{ℕ, zero, suc, _+_, _-_, _*_, _/_, _%_, _^_, _<_, _≤_}
+use mathlib.Core.Bool.{Bool, true, false, not, _&&_, _||_}
+use mathlib.Core.List.{List, _++_}
+use mathlib.Core.Path.{_≡_, refl, sym, ap, ap₂, subst, _∙_}
+use native.Mathlib.Omega.{arith}
+use lib.Dec.{leb, eqb, lit<, lit≤}
+use lib.ListN.{length, take, drop}
+use lib.Pow.{field as field-mod}
+use borrow.Author.Tests.{eqb-true, eqb-false, eq-eqb, ne-eqb, leb-true}
+use Rattle.descriptor.specs.Bytes.{Bytes, desc, put as putDescriptor}
+use Rattle.descriptor.specs.Bits.{pick, bit, setBit, clearBit}
+use Rattle.descriptor.proofs.Tests.{and-true, or-false, differ}
+use Rattle.descriptor.proofs.Laws.{length-put, desc-put-aligned}
+use Rattle.descriptor.proofs.Numbers.{desc-small, bytes-take, bytes-drop}
+use Rattle.descriptor.proofs.BitLaws.{set-above, clear-above, set-other, clear-other}
+use Rattle.vmsa.specs.Limits.{addressLimit, pageBits, Sized}
+use Rattle.vmsa.specs.Geometry.{pageSize}
+use Rattle.vmsa.proofs.Geometry.{paged}
+use Rattle.vmsa.specs.Answers.{Result, codeOf, dirtiedIn}
+use Rattle.vmsa.specs.declared.Regime.{Regime}
+use Rattle.vmsa.specs.declared.Access.{Access}
+use Rattle.vmsa.specs.declared.Leaf.{Leaf}
+use Rattle.vmsa.specs.declared.FaultKind.the-variants.{Translation}
+use Rattle.checks.specs.declared.Checked.the-variants.{Accepted}
+use Rattle.checks.specs.Tests.{sizesBad, rootsBad}
+use Rattle.checks.specs.Order.{firstOf, memoryRows, settingRows}
+use Rattle.checks.proofs.Accept.{clear, Pooled, pooled, Addressed, addressed}
+use Rattle.lookup.specs.declared.Word.{Word}
+use Rattle.lookup.specs.declared.Word.the-variants.{Value, Unreachable}
+use Rattle.lookup.specs.Trace.{End, fault, leaf, Trace}
+use Rattle.lookup.specs.Steps.{decoded, fetched, contextOf, rangeOf, locate}
+use Rattle.lookup.proofs.Decoding.{Alike, decoded-same, aligned8}
+use Rattle.lookup.proofs.Reach.{context-paged, locate-read}
+use Rattle.lookup.proofs.Readers.{AlikeWords, unreachable, values, AlikeEnds, faults, leaves, AlikeTraces, locate-alike}
+use Rattle.permission.specs.Decision.{updated}
+use Rattle.walk.specs.Walk.{poolOf, traced}
+use Rattle.walk.proofs.Parts.{with-put, part-with, length-part}
+use Rattle.walk.proofs.Ends.{Found, found, aligned-zero}
+use Rattle.rules.proofs.Updates.{updated-small}
+use Rattle.session.specs.Model.{Spot, lost, found as foundAt, revalued, put}
+use Rattle.session.specs.Ours.{usable, offsetOf, spotAt, spotOf, located, accessedIn, stamped, ours}
+use Rattle.session.proofs.Walking.{usable-sized, usable-root, put-is}
+use Rattle.rule3.specs.Lawful.{restamped, Sound}
+
+clash : {A : Type 0} → _≡_ {A = ℕ} 0 1 → A
+clash z = absurd (let y : _≡_ {A = ℕ} 0 1 = z in omega arith)
+
+-- ---- where a leaf is found
+
+-- the descriptor's physical address, and the trace that ends there
+pub record Where (r : Regime) (m : List ℕ) (p at : ℕ) (u : Leaf) (n : ℕ) : Type 0 where
+  pub regime : usable r ≡ true
+  pub address : ℕ
+  pub end : traced r (poolOf (r .pool) m) (p * pageSize pageBits) .end ≡ leaf address (u .value) (u .left)
+  pub offset : offsetOf r address ≡ at
+  pub count : length (traced r (poolOf (r .pool) m) (p * pageSize pageBits) .visited) ≡ n
+
+spot-found : (r : Regime) (k : ℕ) (e : End) (at : ℕ) (u : Leaf) (n : ℕ) → spotAt r k e ≡ foundAt at u n
+    → (address : ℕ) × (e ≡ leaf address (u .value) (u .left)) × (offsetOf r address ≡ at) × (k ≡ n)
+spot-found r k (fault kind level) at u n q = clash (cc)
+spot-found r k (leaf a v left) at u n q =
+    let l : _≡_ {A = Leaf} (record { value = v; left = left }) u = cc in
+    (a, ap (λ (x : Leaf). leaf a (x .value) (x .left)) l, cc, cc)
+
+pub where-found : (r : Regime) (m : List ℕ) (p : ℕ) {at : ℕ} {u : Leaf} {n : ℕ} → located r m p ≡ foundAt at u n → Where r m p at u n
+unfolding located
+where-found r m p {at} {u} {n} q = by (usable r) refl q
+  where
+    by : (b : Bool) → usable r ≡ b → pick b (spotOf r (traced r (poolOf (r .pool) m) (p * pageSize pageBits))) (lost (codeOf Translation 0) 0 0) ≡ foundAt at u n → Where r m p at u n
+    by true e q =
+        let t = traced r (poolOf (r .pool) m) (p * pageSize pageBits) in
+        let s = spot-found r (length (t .visited)) (t .end) at u n q in
+        record { regime = e; address = s .0; end = s .1; offset = s .2; count = s .3 }
+    by false e q = clash (cc)
+
+-- the leaf lies in the pool
+pub in-the-pool : (r : Regime) (m : List ℕ) (p : ℕ) {at : ℕ} {u : Leaf} {n : ℕ} (w : Where r m p at u n)
+    → Found r (poolOf (r .pool) m) (p * pageSize pageBits) (w .address) (u .value) (u .left)
+in-the-pool r m p {u = u} w =
+    found r (poolOf (r .pool) m) (p * pageSize pageBits) (w .address) (u .value) (u .left) (usable-sized r (w .regime)) (usable-root r (p * pageSize pageBits) (w .regime)) (w .end)
+
+pub reads : (r : Regime) (m : List ℕ) (p : ℕ) {at : ℕ} {u : Leaf} {n : ℕ} → located r m p ≡ foundAt at u n → 1 ≤ n
+unfolding traced
+reads r m p q =
+    let w = where-found r m p q in
+    rw (w .count) at (locate-read r (fetched (poolOf (r .pool) m) (r .pool .address .0)) (p * pageSize pageBits) (w .end))
+
+pub one : (r : Regime) (m : List ℕ) (p q : ℕ) {at : ℕ} {u v : Leaf} {n k : ℕ} → located r m p ≡ foundAt at u n → located r m q ≡ foundAt at v k → u .value ≡ v .value
+one r m p q e f =
+    let x = where-found r m p e in
+    let y = where-found r m q f in
+    let a = in-the-pool r m p x .inside in
+    let b = in-the-pool r m q y .inside in
+    let s : x .address - r .pool .address .0 ≡ y .address - r .pool .address .0 = (let z : offsetOf r (x .address) ≡ offsetOf r (y .address) = x .offset ∙ sym (y .offset) in omega arith) in
+    sym (a .same) ∙ ap (desc (poolOf (r .pool) m)) s ∙ b .same
+
+-- ---- what acceptance gives
+
+pub accepted-pool : (r : Regime) (n : ℕ) → firstOf (memoryRows n (r .pool)) ≡ Accepted → Pooled n (r .pool)
+accepted-pool r n e = pooled n (r .pool) (clear (memoryRows n (r .pool)) e .0)
+
+pub accepted-usable : (r : Regime) → firstOf (settingRows r) ≡ Accepted → usable r ≡ true
+accepted-usable r e = let c = clear (settingRows r) e in rw (c .1 .0, c .1 .1 .0)
+
+pub accepted-address : (r : Regime) → firstOf (settingRows r) ≡ Accepted → Addressed (r .pool)
+accepted-address r e = addressed (r .pool) (clear (settingRows r) e .0)
+
+pub leaf-room : (r : Regime) (m : List ℕ) → Sound ours r m → (p : ℕ) {at : ℕ} {u : Leaf} {n : ℕ} → located r m p ≡ foundAt at u n → at + 8 ≤ length m
+leaf-room r m s p q =
+    let w = where-found r m p q in
+    let i = in-the-pool r m p w .inside in
+    let f = accepted-pool r (length m) (s .pool) .fits in
+    let l = length-part m (r .pool .start) (r .pool .length) f in
+    rw (← w .offset) (omega (arith, i .least, i .most))
+
+-- ---- an update that no step sees
+
+alike-updated : (f d : Bool) (v : ℕ) → Alike v (updated f d v)
+unfolding updated
+alike-updated f d v = by f d
+  where
+    above-set : (x : ℕ) → setBit 10 x % addressLimit / 4096 ≡ x % addressLimit / 4096
+    above-set x = field-mod (setBit 10 x) 36 12 ∙ ap (λ (y : ℕ). y % 2 ^ 36) (set-above 10 x 12 (lit< tt)) ∙ sym (field-mod x 36 12)
+
+    above-clear : (x : ℕ) → clearBit 7 x % addressLimit / 4096 ≡ x % addressLimit / 4096
+    above-clear x = field-mod (clearBit 7 x) 36 12 ∙ ap (λ (y : ℕ). y % 2 ^ 36) (clear-above 7 x 12 (lit< tt)) ∙ sym (field-mod x 36 12)
+
+    flagged : (x : ℕ) → Alike x (setBit 10 x)
+    flagged x = record { bit0 = sym (set-other 10 x 0 (λ e. omega arith)); bit1 = sym (set-other 10 x 1 (λ e. omega arith)); address = sym (above-set x) }
+
+    dirtied : (x : ℕ) → Alike x (clearBit 7 x)
+    dirtied x = record { bit0 = sym (clear-other 7 x 0 (λ e. omega arith)); bit1 = sym (clear-other 7 x 1 (λ e. omega arith)); address = sym (above-clear x) }
+
+    then-too : (x y z : ℕ) → Alike x y → Alike y z → Alike x z
+    then-too x y z a b = record { bit0 = a .bit0 ∙ b .bit0; bit1 = a .bit1 ∙ b .bit1; address = a .address ∙ b .address }
+
+    by : (f d : Bool) → Alike v (pick d (clearBit 7 (pick f (setBit 10 v) v)) (pick f (setBit 10 v) v))
+    by true true = then-too v (setBit 10 v) (clearBit 7 (setBit 10 v)) (flagged v) (dirtied (setBit 10 v))
+    by true false = flagged v
+    by false true = dirtied v
+    by false false = record { bit0 = refl; bit1 = refl; address = refl }
+
+alike-self : (v : ℕ) → Alike v v
+alike-self v = record { bit0 = refl; bit1 = refl; address = refl }
+
+-- ---- a descriptor of the pool updated: the readers before and after
+
+module _ (pool : List ℕ) (base i w : ℕ) (b8 : base % 8 ≡ 0) (i8 : i % 8 ≡ 0) (fits : i + 8 ≤ length pool) (small : w < 2 ^ 64) (unseen : Alike (desc pool i) w) where
+  after : List ℕ
+  after = putDescriptor pool i w
+
+  value-after : (j : ℕ) → j % 8 ≡ 0 → j + 8 ≤ length pool → desc after j ≡ pick (eqb i j) w (desc pool j)
+  unfolding after
+  value-after j j8 h = desc-put-aligned pool i w j i8 j8 fits h small
+
+  alike-at : (j : ℕ) → j % 8 ≡ 0 → j + 8 ≤ length pool → Alike (desc pool j) (desc after j)
+  alike-at j j8 h = rw (value-after j j8 h) (by (eqb i j) refl)
+    where
+      by : (b : Bool) → eqb i j ≡ b → Alike (desc pool j) (pick b w (desc pool j))
+      by true e = rw (← eqb-true i j e) unseen
+      by false e = alike-self (desc pool j)
+
+  opened : (p : List ℕ) → length p ≡ length pool → (a : ℕ) → fetched p base a ≡ pick (leb base a && leb (a + 8) (base + length pool)) (Value (desc p (a - base))) Unreachable
+  unfolding fetched
+  opened p e a = rw e
+
+  alike-words : (a : ℕ) → a % 8 ≡ 0 → AlikeWords Alike (fetched pool base a) (fetched after base a)
+  unfolding after
+  alike-words a a8 = rw (opened pool refl a, opened (putDescriptor pool i w) (length-put pool i w fits) a) (by (leb base a && leb (a + 8) (base + length pool)) refl)
+    where
+      by : (b : Bool) → (leb base a && leb (a + 8) (base + length pool)) ≡ b
+          → AlikeWords Alike (pick b (Value (desc pool (a - base))) Unreachable) (pick b (Value (desc after (a - base))) Unreachable)
+      by false e = unreachable
+      by true e =
+          let t = and-true (leb base a) (leb (a + 8) (base + length pool)) e in
+          let l = leb-true base a (t .0) in
+          let h = leb-true (a + 8) (base + length pool) (t .1) in
+          values (alike-at (a - base) (omega arith) (omega arith))
+
+-- ---- every lookup after an update
+
+-- the pool's bytes after the descriptor at offset i of the pool was updated
+pool-after : (r : Regime) (m : List ℕ) (i w : ℕ) → r .pool .start + r .pool .length ≤ length m → i + 8 ≤ r .pool .length
+    → poolOf (r .pool) (putDescriptor m (r .pool .start + i) w) ≡ putDescriptor (poolOf (r .pool) m) i w
+pool-after r m i w h k =
+    let s = r .pool .start in
+    let n = r .pool .length in
+    let pool = poolOf (r .pool) m in
+    let l : length pool ≡ n = length-part m s n h in
+    ap (λ (x : List ℕ). take n (drop s x)) (sym (with-put m s n i w true h k))
+    ∙ part-with m (putDescriptor pool i w) s n h (length-put pool i w (rw l k) ∙ l)
+
+-- how two traces end, in the memory before and after: the leaf at the updated descriptor has the new value
+module _ (r : Regime) (pool : List ℕ) (i w : ℕ) (b8 : r .pool .address .0 % 8 ≡ 0) (i8 : i % 8 ≡ 0) (fits : i + 8 ≤ length pool) (small : w < 2 ^ 64)
+  (unseen : Alike (desc pool i) w) (u : usable r ≡ true) (x : ℕ) where
+  abbrev later : List ℕ
+  later = putDescriptor pool i w
+
+  traces : AlikeTraces Alike (traced r pool x) (traced r later x)
+  unfolding traced after
+  traces =
+      locate-alike Alike r x
+      (λ left v y k. sym (decoded-same (contextOf r x .page) (contextOf r x .limit) left v y (context-paged r x .least) k))
+      (fetched pool (r .pool .address .0)) (fetched later (r .pool .address .0)) (alike-words pool (r .pool .address .0) i w b8 i8 fits small unseen) (usable-root r x u)
+
+  spot-by : (n : ℕ) {e f : End} → AlikeEnds Alike e f → traced r pool x .end ≡ e → traced r later x .end ≡ f
+      → spotAt r n f ≡ restamped (r .pool .start + i) w (spotAt r n e)
+  spot-by n (faults kind level) p q = refl
+  spot-by n (leaves a left {v = v} {w = y} k) p q =
+      let g = found r pool x a v left (usable-sized r u) (usable-root r x u) p in
+      let h = found r (putDescriptor pool i w) x a y left (usable-sized r u) (usable-root r x u) q in
+      let j = a - r .pool .address .0 in
+      let jl : j + 8 ≤ length pool = omega (arith, g .inside .least, g .inside .most) in
+      let j8 : j % 8 ≡ 0 = omega (arith, g .reached .aligned, g .inside .least) in
+      let val : y ≡ pick (eqb i j) w v = sym (h .inside .same) ∙ desc-put-aligned pool i w j i8 j8 fits jl small ∙ rw (g .inside .same) in
+      by j (eqb i j) refl val
+    where
+      test : (j : ℕ) (b : Bool) → eqb i j ≡ b → eqb (r .pool .start + j) (r .pool .start + i) ≡ b
+      test j true e = eq-eqb (r .pool .start + j) (r .pool .start + i) (let z = eqb-true i j e in omega arith)
+      test j false e = ne-eqb (r .pool .start + j) (r .pool .start + i) (λ z. eqb-false i j e (omega arith))
+
+      by : (j : ℕ) (b : Bool) → eqb i j ≡ b → y ≡ pick b w v
+          → foundAt (r .pool .start + j) (record { value = y; left = left }) n
+          ≡ foundAt (r .pool .start + j) (pick (eqb (r .pool .start + j) (r .pool .start + i)) (record { value = w; left = left }) (record { value = v; left = left })) n
+      by j true e z = rw (test j true e, z)
+      by j false e z = rw (test j false e, z)
+
+  pub spot-after : spotOf r (traced r later x) ≡ restamped (r .pool .start + i) w (spotOf r (traced r pool x))
+  spot-after =
+      ap (λ (l : List ℕ). spotAt r (length l) (traced r later x .end)) (sym (traces .visited))
+      ∙ spot-by (length (traced r pool x .visited)) (traces .ends) refl refl
+
+marked-where : (r : Regime) (m : List ℕ) → Sound ours r m → (q : ℕ) (f d : Bool) {at : ℕ} {u : Leaf} {n : ℕ} (y : Where r m q at u n) (p : ℕ)
+    → located r (put ours r m (offsetOf r (y .address)) (updated f d (u .value))) p ≡ restamped (offsetOf r (y .address)) (updated f d (u .value)) (located r m p)
+unfolding located
+marked-where r m s q f d {u = u} y p =
+    let g = in-the-pool r m q y in
+    let pool = poolOf (r .pool) m in
+    let v = updated f d (u .value) in
+    let i = y .address - r .pool .address .0 in
+    let fits = accepted-pool r (length m) (s .pool) .fits in
+    let l : length pool ≡ r .pool .length = length-part m (r .pool .start) (r .pool .length) fits in
+    let b8 : r .pool .address .0 % 8 ≡ 0 = aligned8 pageBits (r .pool .address .0) paged (aligned-zero (r .pool .address .0) (accepted-address r (s .regime) .aligned)) in
+    let i8 : i % 8 ≡ 0 = omega (arith, g .reached .aligned, g .inside .least) in
+    let room : i + 8 ≤ length pool = omega (arith, g .inside .least, g .inside .most) in
+    let value : desc pool i ≡ u .value = g .inside .same in
+    let bytes = bytes-take (drop (r .pool .start) m) (r .pool .length) (bytes-drop m (r .pool .start) (s .bytes)) in
+    let small : v < 2 ^ 64 = updated-small (u .value) f d (rw (← value) (desc-small pool i bytes)) in
+    let unseen : Alike (desc pool i) v = rw value (alike-updated f d (u .value)) in
+    let mem : poolOf (r .pool) (put ours r m (offsetOf r (y .address)) v) ≡ putDescriptor pool i v =
+    ap (poolOf (r .pool)) (put-is r m (offsetOf r (y .address)) v) ∙ pool-after r m i v fits (rw (← l) room) in
+    rw (y .regime, mem) (spot-after r pool i v b8 i8 room small unseen (y .regime) (p * pageSize pageBits))
+
+marked-by : (r : Regime) (m : List ℕ) → Sound ours r m → (q : ℕ) (f d : Bool) {at : ℕ} {u : Leaf} {n : ℕ} → located r m q ≡ foundAt at u n → (p : ℕ)
+    → located r (put ours r m at (updated f d (u .value))) p ≡ restamped at (updated f d (u .value)) (located r m p)
+marked-by r m s q f d {u = u} e p =
+    let y = where-found r m q e in
+    subst (λ (x : ℕ). located r (put ours r m x (updated f d (u .value))) p ≡ restamped x (updated f d (u .value)) (located r m p)) (y .offset) (marked-where r m s q f d y p)
+
+pub marks : (r : Regime) (m : List ℕ) → Sound ours r m → (q : ℕ) (o : Result) {at : ℕ} {u : Leaf} {n : ℕ} → located r m q ≡ foundAt at u n → (p : ℕ)
+    → located r (put ours r m at (stamped o (u .value))) p ≡ restamped at (stamped o (u .value)) (located r m p)
+unfolding stamped
+marks r m s q o e p = marked-by r m s q (accessedIn o) (dirtiedIn o) e p
