@@ -76,7 +76,6 @@ pub struct Checked {
 }
 
 /// The list so far.
-#[derive(Default)]
 pub struct History {
     events: Vec<Event>,
     /// The memory at first, and after each change of it.

@@ -218,7 +218,12 @@ impl<'a, S: Subject> Play<'a, S> {
             why.push(format!("library: {got:x?}"));
             return Err(why);
         }
-        scratch.restore();
+        // Bytes change where a mark was made, and nowhere else.
+        if let Reply::Answered(answer) = wanted {
+            if answer.accessed != 0 || answer.dirtied != 0 {
+                scratch.restore();
+            }
+        }
         Ok(())
     }
 
@@ -252,7 +257,7 @@ impl<'a, S: Subject> Play<'a, S> {
 }
 
 /// What the probes write to: a memory for each of the two sessions and for
-/// rule 3, put back after each.
+/// rule 3, put back where one changed them.
 struct Scratch {
     base: Vec<u8>,
     arena: Arena,
@@ -272,13 +277,9 @@ impl Scratch {
 
     fn restore(&mut self) {
         let length = self.base.len();
-        if self.memory != self.base {
-            self.memory.copy_from_slice(&self.base);
-            self.arena.lend(length).copy_from_slice(&self.base);
-        }
-        if self.promised != self.base {
-            self.promised.copy_from_slice(&self.base);
-        }
+        self.arena.lend(length).copy_from_slice(&self.base);
+        self.memory.copy_from_slice(&self.base);
+        self.promised.copy_from_slice(&self.base);
     }
 }
 

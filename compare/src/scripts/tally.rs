@@ -1,8 +1,9 @@
 //! What the scripts met. Everything that can occur must be met, and nothing
 //! else may be.
 
-use super::features::Feature as F;
-use super::features::{Before, Effect, Emptying, Feature, Odd, Off, Since, Sum, Switch, Target};
+use super::features::{
+    Before, Effect, Emptying, Feature, Feature as F, Odd, Off, Since, Sum, Switch, Target,
+};
 use super::play::Bytes;
 use crate::boundary::{plain_answer, CAnswer, Reply, FAULT, REFUSED, SUCCESS};
 use crate::counts::{report_families, Counts};

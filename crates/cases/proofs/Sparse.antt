@@ -12,7 +12,7 @@ use lib.Seq.{take-length, drop-length, take-at, drop-at}
 use borrow.Author.Tests.{eqb-true, eqb-false, leb-true, ltb-true, ltb-false}
 use Rattle.descriptor.specs.Bytes.{number, valueOf, desc, put}
 use Rattle.descriptor.specs.Bits.{pick}
-use Rattle.descriptor.proofs.Laws.{length-put, desc-put, desc-put-other}
+use Rattle.descriptor.proofs.Laws.{length-put, desc-put-aligned}
 use Rattle.descriptor.proofs.Tests.{and-true}
 use Rattle.vmsa.specs.declared.Regime.{Regime}
 use Rattle.vmsa.specs.declared.Access.{Access}
@@ -25,23 +25,6 @@ use Rattle.lookup.specs.Steps.{fetched, locate}
 use Rattle.walk.specs.Walk.{Outcome, traced, walkPool, checked, walk}
 use Rattle.cases.specs.Cases.{puts, memoryOf}
 use Rattle.cases.proofs.Quick.{placed, allPlaced, valueAt, quick, walkAlong, unless, quickWalk}
-
--- ---- read after write, at any multiples of 8
-
-apart : (i j : ℕ) → i % 8 ≡ 0 → j % 8 ≡ 0 → (i ≡ j → ⊥) → (j + 8 ≤ i) ⊎ (i + 8 ≤ j)
-apart i j p q n = by (ltb i j) refl
-  where
-    by : (b : Bool) → ltb i j ≡ b → (j + 8 ≤ i) ⊎ (i + 8 ≤ j)
-    by true e = inr (let l : i < j = ltb-true i j e in omega arith)
-    by false e = inl (let l : j ≤ i = ltb-false i j e in omega arith)
-
-pub desc-after-put : (l : List ℕ) (i v j : ℕ) → i % 8 ≡ 0 → j % 8 ≡ 0 → i + 8 ≤ length l → j + 8 ≤ length l → v < 2 ^ 64
-    → desc (put l i v) j ≡ pick (eqb i j) v (desc l j)
-desc-after-put l i v j ai aj hi hj hv = by (eqb i j) refl
-  where
-    by : (b : Bool) → eqb i j ≡ b → desc (put l i v) j ≡ pick b v (desc l j)
-    by true e = rw (← eqb-true i j e) (desc-put l i v hi hv)
-    by false e = desc-put-other l i j v hi hj (apart i j ai aj (eqb-false i j e))
 
 -- ---- a memory of zeros
 
@@ -100,7 +83,7 @@ module _ (n : ℕ) where
       let s = and-true (placed n d) (allPlaced n ds) f in
       let p = is-placed n d (s .0) in
       puts-desc (put l (d .0) (d .1)) ds j (length-put l (d .0) (d .1) (omega arith) ∙ e) (s .1) aj hj
-      ∙ ap (valueAt ds j) (desc-after-put l (d .0) (d .1) j (p .aligned) aj (omega arith) (omega arith) (p .small))
+      ∙ ap (valueAt ds j) (desc-put-aligned l (d .0) (d .1) j (p .aligned) aj (omega arith) (omega arith) (p .small))
 
 -- ---- the quick reader is the reader, at every address
 

@@ -1,10 +1,11 @@
-// Runs the worked cases P1 to P12, and prints a line for each: its answer, and the leaf descriptor afterwards.
+// Runs the worked cases P1 to P12 and a session, and prints a line for each access: its answer, and the leaf descriptor afterwards.
 ghost use mathlib.Core.Path.{_≡_};
 ghost use Rattle.vmsa.specs.Settings.{withPool};
 ghost use Rattle.walk.specs.Walk.{outcome, walk as walkOf};
 ghost use Rattle.cases.specs.Cases.{base as baseOf, poolOf, eight as eightOf, access as accessOf, usual as usualOf, puts, tablesWith};
 ghost use Rattle.worked.specs.Room.{Roomy};
 use libc::STDOUT_FILENO;
+use session::Session;
 use vmsa::Access;
 use vmsa::AccessKind;
 use vmsa::Answer;
@@ -31,6 +32,8 @@ const THIRD: u64 = 0x40003003;
 const LEAF: u64 = 0x00080000800053C3;
 
 const LEAF_OFFSET: usize = 0x3018;
+
+const LEAF_ADDRESS: u64 = 0x40003018;
 
 // ---- what the cases start from
 
@@ -144,16 +147,21 @@ fn print_refusal(x: Refusal) {
     print_decimal(x.number() as u64);
 }
 
-// The line of case P number.
-fn print_line(number: u64, answer: Answer, leaf: u64) {
-    print(b"P");
-    print_decimal(number);
+// An answer to the end of its line.
+fn print_answer(answer: Answer, leaf: u64) {
     match answer {
         Answer::Success(s) => print_success(s, leaf),
         Answer::Fault(f) => print_fault(f, leaf),
         Answer::Refused(x) => print_refusal(x),
     }
     print(b"\n");
+}
+
+// The line of case P number.
+fn print_line(number: u64, answer: Answer, leaf: u64) {
+    print(b"P");
+    print_decimal(number);
+    print_answer(answer, leaf);
 }
 
 // ---- the cases
@@ -181,6 +189,37 @@ fn run(number: u64, r: Regime, a: Access, third: u64, leaf: u64) {
     run_in(&mut memory, number, r, a, third, leaf);
 }
 
+// ---- a session
+
+// An access in a session, and its line.
+fn step(session: Session, memory: &mut [u8; LENGTH], text: &[u8], a: Access) -> Session {
+    let x = session.access(memory, a);
+    let after = x.session;
+    let answer = x.answer;
+    print(text);
+    print_answer(answer, descriptor::load(memory, LEAF_OFFSET));
+    after
+}
+
+// The session of the README: a miss, hits, the first write, a store without and with a drop.
+fn run_session(memory: &mut [u8; LENGTH], r: Regime) {
+    let read = usual(AccessKind::Read);
+    let write = usual(AccessKind::Write);
+    fill(memory, THIRD, LEAF);
+    let s0 = step(Session::empty(), memory, b"no regime:", read);
+    let set = s0.set_regime(memory, r);
+    let s1 = set.session;
+    let s2 = step(s1, memory, b"first read:", read);
+    let s3 = step(s2, memory, b"second read:", read);
+    let s4 = step(s3, memory, b"first write:", write);
+    let s5 = step(s4, memory, b"second write:", write);
+    let gone = s5.store(memory, PhysAddr(LEAF_ADDRESS), 0);
+    let s6 = gone.session;
+    let s7 = step(s6, memory, b"after a store:", read);
+    let s8 = step(s7.invalidate_all(), memory, b"after a drop:", read);
+    step(s8, memory, b"and again:", read);
+}
+
 fn main() {
     let r = base(LENGTH);
     let read = usual(AccessKind::Read);
@@ -203,4 +242,6 @@ fn main() {
     run(12, r, read, THIRD, LEAF);
     let mut long = [0u8; LONG_LENGTH];
     run_in(&mut long, 12, base(LONG_LENGTH), read, THIRD, LEAF);
+    let mut memory = [0u8; LENGTH];
+    run_session(&mut memory, r);
 }

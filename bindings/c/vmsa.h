@@ -1,0 +1,224 @@
+/*
+ * Stage 1 translation of an Arm guest's addresses (VMSAv8-64, EL1&0 regime,
+ * 4 KiB granule), for the emulated devices of a monitor.
+ *
+ * The caller lends a memory of at most VMSA_MEMORY_LIMIT bytes. The guest's
+ * table pool is a part of it; no byte outside the pool is changed or has a
+ * say in any answer. Link with libcapi.a; a 64-bit, little-endian host.
+ *
+ * Nothing needs checking before a call: every field may have any value, a
+ * flag is true where its byte is not 0, and the memory pointer may be null
+ * where the length is 0. A call that makes no sense is refused with a number
+ * (enum vmsa_refusal) and changes neither memory nor session.
+ *
+ * No function keeps a pointer. Two threads may call at the same time unless
+ * they share a memory or a session.
+ */
+#ifndef VMSA_H
+#define VMSA_H
+
+#include <stddef.h>
+#include <stdint.h>
+
+#ifdef __cplusplus
+extern "C" {
+#endif
+
+/* The version of this interface; vmsa_version() gives the library's. */
+#define VMSA_VERSION 1u
+
+/* The most bytes of a lent memory, and of a pool. */
+#define VMSA_MEMORY_LIMIT 1048576u
+#define VMSA_POOL_LIMIT 65536u
+
+/* The TLB entries of a session. */
+#define VMSA_ENTRIES 64
+
+/*
+ * A translation regime: the values that the guest has in TTBR0_EL1,
+ * TTBR1_EL1, TCR_EL1, MAIR_EL1 and SCTLR_EL1, and where its tables lie.
+ */
+struct vmsa_regime {
+    size_t start;        /* offset of the pool in the memory */
+    size_t length;       /* bytes of the pool */
+    uint64_t address;    /* physical address of the pool's first byte */
+    uint64_t root0;      /* root table of range 0 (address bit 55 is 0) */
+    uint64_t root1;      /* root table of range 1 (address bit 55 is 1) */
+    uint64_t attributes; /* MAIR_EL1: byte i is the lowest but i */
+    uint8_t tsz0;        /* T0SZ, 16 to 39 */
+    uint8_t tsz1;        /* T1SZ, 16 to 39 */
+    uint8_t disabled0;   /* EPD0 */
+    uint8_t disabled1;   /* EPD1 */
+    uint8_t output;      /* IPS: 0 to 5 for 32, 36, 40, 42, 44, 48 bits */
+    uint8_t ha;          /* the walk sets the Access flag */
+    uint8_t hd;          /* the walk marks pages dirty; only where ha is set */
+    uint8_t wxn;         /* writable pages are execute-never */
+};
+
+/* The kinds of an access. A kind above 5 is taken as VMSA_PROBE_WRITE. */
+enum vmsa_kind {
+    VMSA_READ = 0,
+    VMSA_WRITE = 1,
+    VMSA_UPDATE = 2,     /* an atomic read and write */
+    VMSA_FETCH = 3,      /* of an instruction: size 4, aligned */
+    VMSA_PROBE_READ = 4, /* as the AT instructions ask: size 1 */
+    VMSA_PROBE_WRITE = 5
+};
+
+/* An access of size bytes: 1, 2, 4, 8 or 16, all in one 4 KiB page. */
+struct vmsa_access {
+    uint64_t address; /* address of the guest */
+    uint64_t size;
+    uint8_t el0;      /* from EL0, or else from EL1 */
+    uint8_t kind;     /* enum vmsa_kind */
+};
+
+enum vmsa_tag {
+    VMSA_SUCCESS = 0,
+    VMSA_FAULT = 1,
+    VMSA_REFUSED = 2
+};
+
+/*
+ * Fault status codes, as in ESR_ELx. To each but the last add the level. (The
+ * level of an Alignment fault is the leaf's, and its code is 33 all the same.)
+ */
+enum vmsa_fault_code {
+    VMSA_ADDRESS_SIZE_FAULT = 0,
+    VMSA_TRANSLATION_FAULT = 4,
+    VMSA_ACCESS_FLAG_FAULT = 8,
+    VMSA_PERMISSION_FAULT = 12,
+    VMSA_EXTERNAL_ABORT = 20, /* on the walk: a descriptor outside the pool */
+    VMSA_ALIGNMENT_FAULT = 33
+};
+
+/*
+ * Why a call is refused. A walk checks 1 to 7 in that order; setting a regime
+ * 1 to 5; an access in a session 9, 1, 6, 7; a store 9, 1, 8.
+ */
+enum vmsa_refusal {
+    VMSA_ACCEPTED = 0,
+    VMSA_REFUSED_MEMORY_POOL = 1,   /* memory above its limit; pool start or
+                                       length not a multiple of 4,096; pool
+                                       empty, above its limit, or past the
+                                       end of the memory */
+    VMSA_REFUSED_POOL_ADDRESS = 2,  /* not a multiple of 4,096, or the pool
+                                       ends above 2^48 */
+    VMSA_REFUSED_SIZES = 3,         /* tsz0, tsz1 or output out of bounds */
+    VMSA_REFUSED_ROOT = 4,          /* root0 or root1 not a multiple of 4,096,
+                                       or not below 2^48 */
+    VMSA_REFUSED_ATTRIBUTES = 5,    /* a byte is neither 0x00, 0x04, 0x08,
+                                       0x0C nor has both halves nonzero */
+    VMSA_REFUSED_ACCESS_SIZE = 6,   /* a size that its kind does not have, or
+                                       a fetch that is not aligned */
+    VMSA_REFUSED_PAGE_CROSSING = 7, /* first and last byte in two pages */
+    VMSA_REFUSED_STORE_ADDRESS = 8, /* not a multiple of 8, or not in the
+                                       pool */
+    VMSA_REFUSED_NO_REGIME = 9      /* the session has no regime yet */
+};
+
+/*
+ * The answer to an access. What an answer does not hold is 0:
+ * a success holds all but refusal and code; a fault holds code, level,
+ * cacheable and reads; a refusal holds refusal.
+ */
+struct vmsa_answer {
+    uint64_t output;      /* physical address */
+    uint8_t tag;          /* enum vmsa_tag */
+    uint8_t refusal;      /* enum vmsa_refusal */
+    uint16_t code;        /* fault status code */
+    uint8_t level;        /* of the descriptor that decided, 0 to 3 */
+    uint8_t attribute;    /* the byte of MAIR_EL1 that the leaf picks */
+    uint8_t shareability; /* SH[1:0] of the leaf */
+    uint8_t nonglobal;    /* nG of the leaf */
+    uint8_t accessed;     /* this access set the Access flag */
+    uint8_t dirtied;      /* this access cleared AP[2]: the page is dirty */
+    uint8_t cacheable;    /* a TLB may hold it */
+    uint8_t reads;        /* descriptor reads, 0 to 4 */
+};
+
+/* A TLB entry of a session: the leaf of a page, where held is not 0. */
+struct vmsa_entry {
+    uint64_t page;  /* bits 63 to 12 of the guest's address */
+    uint64_t value; /* the leaf descriptor */
+    uint8_t left;   /* levels below it: 3 less its level */
+    uint8_t held;
+};
+
+/*
+ * A session: the regime last accepted, where set is not 0, and 64 entries; a
+ * page's entry is its number mod 64. Start from vmsa_session_empty(). It is
+ * plain data and may be copied; leave its fields to the library.
+ */
+struct vmsa_session {
+    struct vmsa_regime regime;
+    struct vmsa_entry entries[VMSA_ENTRIES];
+    uint8_t set;
+};
+
+uint32_t vmsa_version(void);
+
+/*
+ * Walks the tables for one access, and holds nothing. On success with ha the
+ * leaf's Access flag is set; with hd too, a write or update of a
+ * writable-clean page (DBM and AP[2] both 1) also clears AP[2]. Otherwise,
+ * and for any probe, no byte changes.
+ */
+struct vmsa_answer vmsa_walk(uint8_t *memory, size_t length,
+                             struct vmsa_regime regime,
+                             struct vmsa_access access);
+
+/* The fresh session: no regime, every entry empty. */
+struct vmsa_session vmsa_session_empty(void);
+
+/* Sets the regime and empties every entry. Gives 0, or the refusal. */
+uint8_t vmsa_session_set_regime(struct vmsa_session *session,
+                                const uint8_t *memory, size_t length,
+                                struct vmsa_regime regime);
+
+/*
+ * As vmsa_walk under the session's regime, but a page held in its entry is
+ * answered from there with 0 reads, unless the access would mark it dirty.
+ */
+struct vmsa_answer vmsa_session_access(struct vmsa_session *session,
+                                       uint8_t *memory, size_t length,
+                                       struct vmsa_access access);
+
+/*
+ * Stores a descriptor at a physical address in the pool. Gives 0, or the
+ * refusal. The entries stay as they are: call vmsa_session_invalidate_all
+ * before the next access that is to see the store.
+ */
+uint8_t vmsa_session_store(struct vmsa_session *session,
+                           uint8_t *memory, size_t length,
+                           uint64_t address, uint64_t value);
+
+/* Empties every entry, and changes nothing else. */
+void vmsa_session_invalidate_all(struct vmsa_session *session);
+
+/* A wrong layout does not compile: an array type of negative size. */
+#define VMSA_ASSERT(name, condition) \
+    typedef char vmsa_assert_##name[(condition) ? 1 : -1]
+
+VMSA_ASSERT(pointer, sizeof(size_t) == 8 && sizeof(void *) == 8);
+VMSA_ASSERT(regime, sizeof(struct vmsa_regime) == 56);
+VMSA_ASSERT(regime_tsz0, offsetof(struct vmsa_regime, tsz0) == 48);
+VMSA_ASSERT(regime_wxn, offsetof(struct vmsa_regime, wxn) == 55);
+VMSA_ASSERT(access, sizeof(struct vmsa_access) == 24);
+VMSA_ASSERT(access_kind, offsetof(struct vmsa_access, kind) == 17);
+VMSA_ASSERT(answer, sizeof(struct vmsa_answer) == 24);
+VMSA_ASSERT(answer_code, offsetof(struct vmsa_answer, code) == 10);
+VMSA_ASSERT(answer_reads, offsetof(struct vmsa_answer, reads) == 19);
+VMSA_ASSERT(entry, sizeof(struct vmsa_entry) == 24);
+VMSA_ASSERT(entry_held, offsetof(struct vmsa_entry, held) == 17);
+VMSA_ASSERT(session, sizeof(struct vmsa_session) == 1600);
+VMSA_ASSERT(session_entries, offsetof(struct vmsa_session, entries) == 56);
+VMSA_ASSERT(session_set, offsetof(struct vmsa_session, set) == 1592);
+
+#undef VMSA_ASSERT
+
+#ifdef __cplusplus
+}
+#endif
+
+#endif
