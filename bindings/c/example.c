@@ -63,10 +63,11 @@ int main(void)
         return 1;
     }
 
-    put(0x40000000, 0x40001003);         /* level 0: a table */
-    put(0x40001000, 0x40002003);         /* level 1: a table */
-    put(0x40002010, 0x40003003);         /* level 2: a table */
-    put(LEAF, UINT64_C(0x00080000800053C3)); /* level 3: a writable-clean page */
+    put(0x40000000, 0x40001003); /* level 0: a table */
+    put(0x40001000, 0x40002003); /* level 1: a table */
+    put(0x40002010, 0x40003003); /* level 2: a table */
+    /* level 3: a writable-clean page, its Access flag clear */
+    put(LEAF, UINT64_C(0x00080000800053C3));
 
     regime.length = sizeof memory;
     regime.address = POOL;

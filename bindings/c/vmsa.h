@@ -44,7 +44,7 @@ struct vmsa_regime {
     uint64_t address;    /* physical address of the pool's first byte */
     uint64_t root0;      /* root table of range 0 (address bit 55 is 0) */
     uint64_t root1;      /* root table of range 1 (address bit 55 is 1) */
-    uint64_t attributes; /* MAIR_EL1: byte i is the lowest but i */
+    uint64_t attributes; /* MAIR_EL1: byte i in bits 8i+7 to 8i */
     uint8_t tsz0;        /* T0SZ, 16 to 39 */
     uint8_t tsz1;        /* T1SZ, 16 to 39 */
     uint8_t disabled0;   /* EPD0 */

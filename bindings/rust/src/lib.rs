@@ -1,0 +1,97 @@
+//! Stage 1 translation of an Arm guest's addresses, for the emulated devices
+//! of a monitor: VMSAv8-64, EL1&0 regime, 4 KiB granule, 48 bits of output.
+//!
+//! A device that reads or writes guest memory asks [`walk`], or a [`Session`]
+//! that holds translations, for the physical address. The walk obeys the
+//! guest's permissions, sets the Access flag and marks written pages dirty,
+//! as the hardware would. The work is done by a proved library with a C
+//! interface; this crate is its safe form.
+//!
+//! The caller lends a memory of at most [`MEMORY_LIMIT`] bytes. The guest's
+//! tables lie in a part of it, the [`Pool`]; no byte outside the pool is
+//! changed or has a say in any answer. Nothing needs checking before a call:
+//! any bytes, any regime and any access get an answer, which is a
+//! [`Translation`], a [`Fault`] for the guest, or a [`Refusal`] where the call
+//! itself makes no sense. Neither a fault nor a refusal changes the memory.
+//!
+//! ```
+//! use vmsa::{Access, OutputSize, PhysAddr, Pool, Range, Regime, VirtAddr};
+//!
+//! // Four tables of one entry each; the last maps page 0x403 writable-clean.
+//! let mut memory = vec![0; 0x10000];
+//! let mut put = |offset: usize, descriptor: u64| {
+//!     memory[offset..offset + 8].copy_from_slice(&descriptor.to_le_bytes());
+//! };
+//! put(0x0000, 0x4000_1003);
+//! put(0x1000, 0x4000_2003);
+//! put(0x2010, 0x4000_3003);
+//! put(0x3018, 0x0008_0000_8000_53c3);
+//!
+//! let regime = Regime::new()
+//!     .pool(Pool::new(0, 0x10000, PhysAddr(0x4000_0000)))
+//!     .range0(Range::new(PhysAddr(0x4000_0000), 16))
+//!     .output(OutputSize::Bits48)
+//!     .ha(true)
+//!     .hd(true)
+//!     .attributes([0xff; 8]);
+//!
+//! let write = Access::write(VirtAddr(0x40_3abc), 4).el0();
+//! let found = vmsa::walk(&mut memory, &regime, &write)?;
+//! assert_eq!(found.output, PhysAddr(0x8000_5abc));
+//! assert!(found.accessed && found.dirtied);
+//! assert_eq!(memory[0x3018..0x3020], 0x0008_0000_8000_5743_u64.to_le_bytes());
+//!
+//! let stop = vmsa::walk(&mut memory, &regime, &Access::fetch(VirtAddr(0x40_4000))).unwrap_err();
+//! assert_eq!(stop.to_string(), "Translation fault, level 3 (0b000111)");
+//! # Ok::<(), vmsa::Stop>(())
+//! ```
+
+#![deny(missing_docs)]
+#![deny(unsafe_code)]
+
+mod access;
+mod address;
+mod answer;
+mod ffi;
+mod regime;
+mod session;
+
+pub use access::{Access, AccessKind, ExceptionLevel};
+pub use address::{PhysAddr, VirtAddr};
+pub use answer::{Answer, Fault, FaultKind, Refusal, Shareability, Stop, Translation};
+pub use regime::{OutputSize, Pool, Range, Regime};
+pub use session::Session;
+
+/// The most bytes of a lent memory.
+pub const MEMORY_LIMIT: usize = 1_048_576;
+
+/// The most bytes of a pool. Its last descriptor is at offset 65,528.
+pub const POOL_LIMIT: usize = 65_536;
+
+/// The version of the C interface that this crate speaks.
+pub const VERSION: u32 = 1;
+
+/// The version of the library that is linked in; to be [`VERSION`].
+pub fn version() -> u32 {
+    ffi::version()
+}
+
+/// Walks the tables for one access and holds nothing.
+///
+/// On success with HA on, the leaf's Access flag is set; with HD on too, a
+/// write or update of a writable-clean page (DBM and AP\[2\] both 1) also
+/// clears AP\[2\]. A probe changes nothing, and so does whatever stops the
+/// walk. The checks run in the order of [`Refusal`]'s numbers 1 to 7.
+///
+/// ```
+/// use vmsa::{walk, Access, Refusal, Regime, Stop, VirtAddr};
+///
+/// let read = Access::read(VirtAddr(0x1000), 8);
+/// assert_eq!(
+///     walk(&mut [], &Regime::new(), &read),
+///     Err(Stop::Refused(Refusal::MemoryPool)),
+/// );
+/// ```
+pub fn walk(memory: &mut [u8], regime: &Regime, access: &Access) -> Answer {
+    ffi::walk(memory, ffi::Regime::from(regime), ffi::Access::from(access)).into()
+}

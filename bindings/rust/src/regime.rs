@@ -1,0 +1,249 @@
+//! The translation regime, built up setting by setting.
+
+use crate::PhysAddr;
+
+/// The table pool: its part of the lent memory, and the physical address of
+/// its first byte.
+///
+/// A descriptor at physical address `a` lies at offset
+/// `start + (a - address)` of the memory.
+#[derive(Clone, Copy, Debug, Default, PartialEq, Eq, Hash)]
+pub struct Pool {
+    /// Offset of the pool in the memory, a multiple of 4,096.
+    pub start: usize,
+    /// Bytes of the pool: a multiple of 4,096, at most [`crate::POOL_LIMIT`].
+    pub length: usize,
+    /// Physical address of the first byte, a multiple of 4,096.
+    pub address: PhysAddr,
+}
+
+impl Pool {
+    /// A pool of `length` bytes from offset `start`.
+    pub const fn new(start: usize, length: usize, address: PhysAddr) -> Self {
+        Self {
+            start,
+            length,
+            address,
+        }
+    }
+}
+
+/// One of the two ranges of guest addresses: what TTBR*n*_EL1, T*n*SZ and
+/// EPD*n* say of it.
+#[derive(Clone, Copy, Debug, PartialEq, Eq, Hash)]
+pub struct Range {
+    /// The root table.
+    pub root: PhysAddr,
+    /// The size field T, 16 to 39: addresses have `64 - tsz` bits.
+    pub tsz: u8,
+    /// Whether every address of the range is a Translation fault.
+    pub disabled: bool,
+}
+
+impl Range {
+    /// A range that is not disabled.
+    pub const fn new(root: PhysAddr, tsz: u8) -> Self {
+        Self {
+            root,
+            tsz,
+            disabled: false,
+        }
+    }
+
+    /// A disabled range. Its root and T are valid, for they are checked too.
+    pub const DISABLED: Self = Self {
+        root: PhysAddr(0),
+        tsz: 16,
+        disabled: true,
+    };
+}
+
+/// How many bits an output address may have, by the codes of TCR_EL1.IPS.
+#[derive(Clone, Copy, Debug, PartialEq, Eq, PartialOrd, Ord, Hash)]
+pub enum OutputSize {
+    /// 32 bits, code 0.
+    Bits32,
+    /// 36 bits, code 1.
+    Bits36,
+    /// 40 bits, code 2.
+    Bits40,
+    /// 42 bits, code 3.
+    Bits42,
+    /// 44 bits, code 4.
+    Bits44,
+    /// 48 bits, code 5.
+    Bits48,
+}
+
+impl OutputSize {
+    /// Every size, in the order of the codes.
+    pub const ALL: [Self; 6] = [
+        Self::Bits32,
+        Self::Bits36,
+        Self::Bits40,
+        Self::Bits42,
+        Self::Bits44,
+        Self::Bits48,
+    ];
+
+    /// The size of a code, or `None` above 5.
+    ///
+    /// ```
+    /// use vmsa::OutputSize;
+    ///
+    /// let tcr: u64 = 0x0000_0002_0010_0010;
+    /// let ips = (tcr >> 32 & 7) as u8;
+    /// assert_eq!(OutputSize::from_code(ips), Some(OutputSize::Bits40));
+    /// assert_eq!(OutputSize::from_code(6), None);
+    /// ```
+    pub const fn from_code(code: u8) -> Option<Self> {
+        match code {
+            0 => Some(Self::Bits32),
+            1 => Some(Self::Bits36),
+            2 => Some(Self::Bits40),
+            3 => Some(Self::Bits42),
+            4 => Some(Self::Bits44),
+            5 => Some(Self::Bits48),
+            _ => None,
+        }
+    }
+
+    /// The code, 0 to 5.
+    pub const fn code(self) -> u8 {
+        self as u8
+    }
+
+    /// The count of bits.
+    pub const fn bits(self) -> u32 {
+        match self {
+            Self::Bits32 => 32,
+            Self::Bits36 => 36,
+            Self::Bits40 => 40,
+            Self::Bits42 => 42,
+            Self::Bits44 => 44,
+            Self::Bits48 => 48,
+        }
+    }
+}
+
+/// A translation regime: stage 1 of EL1&0.
+///
+/// Each setting takes the regime and hands it back with one thing changed.
+///
+/// ```
+/// use vmsa::{OutputSize, PhysAddr, Pool, Range, Regime};
+///
+/// let mair: u64 = 0xff04;
+/// let regime = Regime::new()
+///     .pool(Pool::new(0, 0x4000, PhysAddr(0x4000_0000)))
+///     .range0(Range::new(PhysAddr(0x4000_0000), 25))
+///     .output(OutputSize::Bits40)
+///     .ha(true)
+///     .attributes(mair.to_le_bytes());
+/// assert_eq!(regime.attributes[1], 0xff);
+/// assert!(regime.range1.disabled);
+///
+/// let other = regime.attribute(2, 0x44);
+/// assert_eq!(other.attributes, [0x04, 0xff, 0x44, 0, 0, 0, 0, 0]);
+/// ```
+#[derive(Clone, Copy, Debug, PartialEq, Eq, Hash)]
+#[must_use = "a setting hands the regime back"]
+pub struct Regime {
+    /// The table pool.
+    pub pool: Pool,
+    /// The range of addresses whose bit 55 is 0.
+    pub range0: Range,
+    /// The range of addresses whose bit 55 is 1.
+    pub range1: Range,
+    /// The bits of an output address.
+    pub output: OutputSize,
+    /// Whether walks set the Access flag.
+    pub ha: bool,
+    /// Whether walks mark pages dirty. It counts only where `ha` is set.
+    pub hd: bool,
+    /// Whether writable pages are execute-never.
+    pub wxn: bool,
+    /// The bytes of MAIR_EL1, the lowest first.
+    pub attributes: [u8; 8],
+}
+
+impl Regime {
+    /// No pool yet, both ranges disabled, 48 bits of output, no updates, and
+    /// Device memory only.
+    pub const fn new() -> Self {
+        Self {
+            pool: Pool::new(0, 0, PhysAddr(0)),
+            range0: Range::DISABLED,
+            range1: Range::DISABLED,
+            output: OutputSize::Bits48,
+            ha: false,
+            hd: false,
+            wxn: false,
+            attributes: [0; 8],
+        }
+    }
+
+    /// Sets the table pool.
+    pub const fn pool(mut self, pool: Pool) -> Self {
+        self.pool = pool;
+        self
+    }
+
+    /// Sets the range of addresses whose bit 55 is 0.
+    pub const fn range0(mut self, range: Range) -> Self {
+        self.range0 = range;
+        self
+    }
+
+    /// Sets the range of addresses whose bit 55 is 1.
+    pub const fn range1(mut self, range: Range) -> Self {
+        self.range1 = range;
+        self
+    }
+
+    /// Sets the bits of an output address.
+    pub const fn output(mut self, output: OutputSize) -> Self {
+        self.output = output;
+        self
+    }
+
+    /// Switches the update of the Access flag.
+    pub const fn ha(mut self, ha: bool) -> Self {
+        self.ha = ha;
+        self
+    }
+
+    /// Switches the marking of dirty pages.
+    pub const fn hd(mut self, hd: bool) -> Self {
+        self.hd = hd;
+        self
+    }
+
+    /// Switches execute-never for writable pages.
+    pub const fn wxn(mut self, wxn: bool) -> Self {
+        self.wxn = wxn;
+        self
+    }
+
+    /// Sets every attribute byte.
+    pub const fn attributes(mut self, attributes: [u8; 8]) -> Self {
+        self.attributes = attributes;
+        self
+    }
+
+    /// Sets attribute byte `index`.
+    ///
+    /// # Panics
+    ///
+    /// Where `index` is above 7.
+    pub const fn attribute(mut self, index: usize, byte: u8) -> Self {
+        self.attributes[index] = byte;
+        self
+    }
+}
+
+impl Default for Regime {
+    fn default() -> Self {
+        Self::new()
+    }
+}
