@@ -1,6 +1,6 @@
 //! What a device asks for.
 
-use crate::VirtAddr;
+use crate::{ffi, VirtAddr};
 
 /// The kind of an access.
 #[derive(Clone, Copy, Debug, PartialEq, Eq, Hash)]
@@ -115,5 +115,16 @@ impl Access {
     pub const fn el1(mut self) -> Self {
         self.el = ExceptionLevel::El1;
         self
+    }
+}
+
+impl From<&Access> for ffi::Access {
+    fn from(access: &Access) -> Self {
+        Self {
+            address: access.address.0,
+            size: access.size,
+            el0: (access.el == ExceptionLevel::El0).into(),
+            kind: access.kind as u8,
+        }
     }
 }

@@ -1,6 +1,6 @@
 //! The translation regime, built up setting by setting.
 
-use crate::PhysAddr;
+use crate::{ffi, PhysAddr};
 
 /// The table pool: its part of the lent memory, and the physical address of
 /// its first byte.
@@ -245,5 +245,26 @@ impl Regime {
 impl Default for Regime {
     fn default() -> Self {
         Self::new()
+    }
+}
+
+impl From<&Regime> for ffi::Regime {
+    fn from(regime: &Regime) -> Self {
+        Self {
+            start: regime.pool.start,
+            length: regime.pool.length,
+            address: regime.pool.address.0,
+            root0: regime.range0.root.0,
+            root1: regime.range1.root.0,
+            attributes: u64::from_le_bytes(regime.attributes),
+            tsz0: regime.range0.tsz,
+            tsz1: regime.range1.tsz,
+            disabled0: regime.range0.disabled.into(),
+            disabled1: regime.range1.disabled.into(),
+            output: regime.output.code(),
+            ha: regime.ha.into(),
+            hd: regime.hd.into(),
+            wxn: regime.wxn.into(),
+        }
     }
 }

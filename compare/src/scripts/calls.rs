@@ -64,7 +64,7 @@ impl Script {
         let (family, mood, world) = match number % 16 {
             _ if number % 500 == 7 => {
                 let lengths = Mood {
-                    odd_length: 3,
+                    odd_length: 2,
                     ..EVEN
                 };
                 ("long", lengths, World::long(&mut random))
@@ -179,7 +179,7 @@ impl Script {
 
     /// A call, and its length if that is not the usual one.
     fn draw_call(&mut self, session: &Session, memory: &[u8]) -> (Call, Option<usize>) {
-        let patience = if self.family == "long" { 4 } else { 2 };
+        let patience = if self.family == "long" { 8 } else { 2 };
         if session.regime.is_none() && self.random.once_in(patience) {
             return self.draw_regime();
         }

@@ -1,9 +1,13 @@
 // The C interface: structs of numbers, the memory as a pointer and a length. Nothing that a caller passes is out of contract.
 ghost use mathlib.Core.Path.{_≡_};
+ghost use mathlib.Core.List.{List};
+ghost use Prim.Native.Nat.{ℕ};
 ghost use Rattle.vmsa.specs.Words.{regimeOf};
-ghost use Rattle.session.specs.Model.{fresh};
-ghost use Rattle.session.specs.View.{sessionView};
-ghost use Rattle.words.specs.Words.{accessOf, told, walkTold};
+ghost use Rattle.session.specs.Replies.{done};
+ghost use Rattle.session.specs.Model.{fresh, setCall, accessCall, storeCall, dropCall};
+ghost use Rattle.session.specs.Ours.{ours};
+ghost use Rattle.session.specs.View.{sessionView, stepped};
+ghost use Rattle.words.specs.Words.{accessOf, told, walkTold, changed, changedBy, accessed, accessedBy};
 use session::Session;
 use vmsa::RegimeWords;
 use words::AccessWords;
@@ -21,7 +25,11 @@ pub extern "C" fn vmsa_version() -> u32
 
 // The plain walk of an access in the lent memory.
 #[no_mangle]
-pub extern "C" fn vmsa_walk(memory: &mut [u8], regime: RegimeWords, access: AccessWords) -> AnswerWords
+pub extern "C" fn vmsa_walk(
+    memory: &mut [u8],
+    regime: RegimeWords,
+    access: AccessWords,
+) -> AnswerWords
     ensures { λ w. ⌜ told w (now (memory .exit)) ≡ walkTold (regimeOf regime) (accessOf access) (now (memory .entry)) ⌝ }
 {
     words::walk_words(memory, regime, access)
@@ -33,4 +41,60 @@ pub extern "C" fn vmsa_session_empty() -> Session
     ensures { λ s. ⌜ sessionView s ≡ fresh ⌝ }
 {
     Session::empty()
+}
+
+// Sets the regime of the lent session: 0, or the number of the refusal, 1 to 5.
+#[no_mangle]
+pub extern "C" fn vmsa_session_set_regime(
+    session: &mut Session,
+    memory: &[u8],
+    regime: RegimeWords,
+) -> u8
+    ensures { λ n. ⌜ changed (now (session .exit)) (now (memory .entry)) n ≡ changedBy (setCall ours (sessionView (now (session .entry))) (now (memory .entry)) (regimeOf regime)) ⌝ }
+{
+    let before = *session;
+    let x = words::set_words(before, memory, regime);
+    *session = x.session;
+    x.refusal
+}
+
+// An access in the lent session and memory.
+#[no_mangle]
+pub extern "C" fn vmsa_session_access(
+    session: &mut Session,
+    memory: &mut [u8],
+    access: AccessWords,
+) -> AnswerWords
+    ensures { λ w. ⌜ accessed (now (session .exit)) (now (memory .exit)) w ≡ accessedBy (accessCall ours (sessionView (now (session .entry))) (now (memory .entry)) (accessOf access)) ⌝ }
+{
+    let before = *session;
+    let x = words::access_words(before, memory, access);
+    *session = x.session;
+    x.answer
+}
+
+// Stores one descriptor at a physical address: 0, or the number of the refusal, 9, 1 or 8.
+#[no_mangle]
+pub extern "C" fn vmsa_session_store(
+    session: &mut Session,
+    memory: &mut [u8],
+    address: u64,
+    value: u64,
+) -> u8
+    ensures { λ n. ⌜ changed (now (session .exit)) (now (memory .exit)) n ≡ changedBy (storeCall ours (sessionView (now (session .entry))) (now (memory .entry)) address value) ⌝ }
+{
+    let before = *session;
+    let x = words::store_words(before, memory, address, value);
+    *session = x.session;
+    x.refusal
+}
+
+// Empties every entry of the lent session.
+#[no_mangle]
+pub extern "C" fn vmsa_session_invalidate_all(session: &mut Session)
+    ensures { λ _. ⌜ ((m : List ℕ) → stepped (now (session .exit)) m done ≡ dropCall ours (sessionView (now (session .entry))) m) ⌝ }
+{
+    let before = *session;
+    let after = before.invalidate_all();
+    *session = after;
 }

@@ -48,7 +48,8 @@ fn pool_address_bad(pool: Pool) -> bool
     if vmsa::ADDRESS_LIMIT < address {
         return true;
     }
-    vmsa::unaligned(vmsa::PAGE_BITS, address) | (vmsa::ADDRESS_LIMIT - address < (pool.length as u64))
+    vmsa::unaligned(vmsa::PAGE_BITS, address)
+        | (vmsa::ADDRESS_LIMIT - address < (pool.length as u64))
 }
 
 fn tsz_bad(t: u8) -> bool
@@ -213,6 +214,10 @@ pub fn check_session_access(n: usize, pool: Pool, a: Access) -> Checked
 pub fn check_session_store(n: usize, pool: Pool, address: PhysAddr) -> Checked
     ensures { λ x. ⌜ x ≡ sessionStoreCheck n pool (address .0) ⌝ }
 {
-    let from8 = first(store_address_bad(pool, address), Refusal::StoreAddress, Checked::Accepted);
+    let from8 = first(
+        store_address_bad(pool, address),
+        Refusal::StoreAddress,
+        Checked::Accepted,
+    );
     memory_before(n, pool, from8)
 }

@@ -36,8 +36,8 @@ pub record AlikeTraces (R : ℕ → ℕ → Type 0) (t u : Trace) : Type 0 where
   pub ends : AlikeEnds R (t .end) (u .end)
 
 module _ (R : ℕ → ℕ → Type 0) (c : Context) (g : Paged (c .page))
-  (unseen : (left v w : ℕ) → R v w → decoded (c .page) (c .limit) left w ≡ decoded (c .page) (c .limit) left v)
-  (read read2 : ℕ → Word) (alike : (a : ℕ) → a % 8 ≡ 0 → AlikeWords R (read a) (read2 a)) where
+    (unseen : (left v w : ℕ) → R v w → decoded (c .page) (c .limit) left w ≡ decoded (c .page) (c .limit) left v)
+    (read read2 : ℕ → Word) (alike : (a : ℕ) → a % 8 ≡ 0 → AlikeWords R (read a) (read2 a)) where
   onward-alike : (below below2 : ℕ → Trace) → ((t : ℕ) → t % 8 ≡ 0 → AlikeTraces R (below t) (below2 t)) → (left a v w : ℕ) → R v w
       → (x : Next) → decoded (c .page) (c .limit) left v ≡ x → AlikeTraces R (onward below left a v x) (onward below2 left a w x)
   onward-alike below below2 h left a v w k (next.Fault kind) d = record { visited = refl; ends = faults kind (levelOf left) }

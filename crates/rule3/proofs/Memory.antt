@@ -193,7 +193,7 @@ pool-after r m i w h k =
 
 -- how two traces end, in the memory before and after: the leaf at the updated descriptor has the new value
 module _ (r : Regime) (pool : List ℕ) (i w : ℕ) (b8 : r .pool .address .0 % 8 ≡ 0) (i8 : i % 8 ≡ 0) (fits : i + 8 ≤ length pool) (small : w < 2 ^ 64)
-  (unseen : Alike (desc pool i) w) (u : usable r ≡ true) (x : ℕ) where
+    (unseen : Alike (desc pool i) w) (u : usable r ≡ true) (x : ℕ) where
   abbrev later : List ℕ
   later = putDescriptor pool i w
 

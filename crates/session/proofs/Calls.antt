@@ -97,8 +97,7 @@ storable-by pool address e =
     let t2 = ltb address (pool .address .0) in
     let t3 = ltb (pool .address .0 + pool .length) (address + 8) in
     let s3 = or-false (t1 || t2) t3 e in
-    let s2 = or-false t1 t2 (s3 .0) in
-    (
+    let s2 = or-false t1 t2 (s3 .0) in (
       eqb-true (address % 8) 0 (not-false (eqb (address % 8) 0) (s2 .0)),
       ltb-false address (pool .address .0) (s2 .1),
       ltb-false (pool .address .0 + pool .length) (address + 8) (s3 .1),

@@ -91,7 +91,7 @@ walkedPool r m a = record {
 }
 
 module _ (r : Regime) (m : List ℕ) (a : Access) (z : Sized r) (e : rangeOf r (a .address .0) .root .0 % 8 ≡ 0)
-  (h : r .pool .start + r .pool .length ≤ length m) where
+    (h : r .pool .start + r .pool .length ≤ length m) where
   pool : List ℕ
   pool = poolOf (r .pool) m
 

@@ -1,2 +1,3 @@
 pub mod Geometry
 pub mod Words
+pub mod Levels

@@ -11,20 +11,32 @@ ghost use Rattle.vmsa.specs.Settings.{initial, withPool, withRange0, wit
 
 // The limits of the pool, the memory and the regime; specs/Limits.antt has the same numbers.
 pub const MEMORY_LIMIT: usize = 1048576;
+
 pub const POOL_LIMIT: usize = 65536;
+
 pub const ADDRESS_LIMIT: u64 = 281474976710656;
+
 pub const TSZ_LEAST: u8 = 16;
+
 pub const TSZ_MOST: u8 = 39;
+
 pub const OUTPUT_MOST: u8 = 5;
+
 pub const PAGE_BITS: u8 = 12;
 
 // Bits of a leaf descriptor; specs/Fields.antt has the same numbers.
 pub const AP1: u8 = 6;
+
 pub const AP2: u8 = 7;
+
 pub const AF: u8 = 10;
+
 pub const NG: u8 = 11;
+
 pub const DBM: u8 = 51;
+
 pub const PXN: u8 = 53;
+
 pub const UXN: u8 = 54;
 
 // A physical address.

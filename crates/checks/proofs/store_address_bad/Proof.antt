@@ -22,8 +22,11 @@ returns-3 : tie.Need-returns-3
 unfolding storeAddressBad
 returns-3 c =
     let a = c .before .before .args in
-    simp (le-ltb (a .address .0) (a .pool .address .0) (omega arith), or-none,
-      ltb-same (a .pool .length - 8) (a .address .0 - a .pool .address .0) (a .pool .address .0 + a .pool .length) (a .address .0 + 8) (λ h. omega arith) (λ h. omega arith))
+    simp (
+      le-ltb (a .address .0) (a .pool .address .0) (omega arith),
+      or-none,
+      ltb-same (a .pool .length - 8) (a .address .0 - a .pool .address .0) (a .pool .address .0 + a .pool .length) (a .address .0 + 8) (λ h. omega arith) (λ h. omega arith),
+    )
 
 pub store-address-bad-spec : {M : Type 1} → statement M
 store-address-bad-spec = tie.close (tie.spec returns returns-2 returns-3)

@@ -15,9 +15,10 @@ add-t10 c = omega (arith, mod-lt (c .before .before .before .before .args .c .in
 returns : tie.Need-returns
 unfolding entryAt
 returns c =
-    let a = c .before .before .before .before .args in
-    (rw (c .before .entries .ensures .0, c .before .before .before .span .ensures .0),
-      omega (arith, mod-lt (a .c .input / c .before .before .before .span .result) (c .before .entries .ensures .1), c .before .before .before .before .pre .2))
+    let a = c .before .before .before .before .args in (
+      rw (c .before .entries .ensures .0, c .before .before .before .span .ensures .0),
+      omega (arith, mod-lt (a .c .input / c .before .before .before .span .result) (c .before .entries .ensures .1), c .before .before .before .before .pre .2),
+    )
 
 pub entry-at-spec : {M : Type 1} → statement M
 entry-at-spec =

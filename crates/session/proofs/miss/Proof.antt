@@ -20,8 +20,7 @@ returns c =
     let s = a .r .pool .start in
     let n = a .r .pool .length in
     let u = sym (c .before .before .before .before .before .before .usable .ensures) ∙ c .before .before .before .before .before .if1 .taken in
-    let w = c .before .before .walk-leaf in
-    (
+    let w = c .before .before .walk-leaf in (
       miss-outcome (a .r) (a .memory .now) (a .a) u (c .before .before .before .before .before .before .before .before .pre .0) (w .result) (w .last .0) (s + n - s) (add-sub-cancel-left s n) (w .ensures .0) (w .ensures .1),
       kept-low (a .r) (take (s + n - s) (drop s (a .memory .now))) (a .a) (w .result .kept) u (w .ensures .1),
     )

@@ -31,27 +31,30 @@ returns : tie.Need-returns
 unfolding traced
 returns c =
     let a = c .before .before .before .before .before .before .args in
-    let l = c .before .before .before .locate in
-    (fault-outcome (a .r) (a .a) (a .pool .now) (l .result) (l .ensures) (c .before .ending .given .0 .0) (c .before .ending .given .1),
-      fault-kept (a .r) (a .a) (a .pool .now) (l .result) (l .ensures) (c .before .ending .given .0 .0) (c .before .ending .given .1))
+    let l = c .before .before .before .locate in (
+      fault-outcome (a .r) (a .a) (a .pool .now) (l .result) (l .ensures) (c .before .ending .given .0 .0) (c .before .ending .given .1),
+      fault-kept (a .r) (a .a) (a .pool .now) (l .result) (l .ensures) (c .before .ending .given .0 .0) (c .before .ending .given .1),
+    )
 
 returns-2 : tie.Need-returns-2
 unfolding traced
 returns-2 c =
     let a = c .before .before .before .before .before .before .before .before .before .before .before .before .before .before .args in
     let l = c .before .before .before .before .before .before .before .before .before .before .before .locate in
-    let j = c .before .before .before .before .before .before .before .before .judge in
-    (stored-outcome (a .r) (a .a) (a .pool .now) (l .result) (l .ensures) (c .before .before .before .before .before .before .before .before .before .enum-told .given .1) (j .result) (j .ensures) (c .before .before .before .before .before .before .if1 .taken) _ (c .before .before .store .ensures),
-      c .before .before .before .before .before .before .before .keep .ensures ∙ leaf-kept (a .r) (a .a) (a .pool .now) (l .result) (l .ensures) (c .before .before .before .before .before .before .before .before .before .enum-told .given .1) (j .result) (j .ensures))
+    let j = c .before .before .before .before .before .before .before .before .judge in (
+      stored-outcome (a .r) (a .a) (a .pool .now) (l .result) (l .ensures) (c .before .before .before .before .before .before .before .before .before .enum-told .given .1) (j .result) (j .ensures) (c .before .before .before .before .before .before .if1 .taken) _ (c .before .before .store .ensures),
+      c .before .before .before .before .before .before .before .keep .ensures ∙ leaf-kept (a .r) (a .a) (a .pool .now) (l .result) (l .ensures) (c .before .before .before .before .before .before .before .before .before .enum-told .given .1) (j .result) (j .ensures),
+    )
 
 returns-3 : tie.Need-returns-3
 unfolding traced
 returns-3 c =
     let a = c .before .before .before .before .before .before .before .before .args in
     let l = c .before .before .before .before .before .locate in
-    let j = c .before .before .judge in
-    (kept-outcome (a .r) (a .a) (a .pool .now) (l .result) (l .ensures) (c .before .before .before .enum-told .given .1) (j .result) (j .ensures) (c .if1 .left),
-      c .before .keep .ensures ∙ leaf-kept (a .r) (a .a) (a .pool .now) (l .result) (l .ensures) (c .before .before .before .enum-told .given .1) (j .result) (j .ensures))
+    let j = c .before .before .judge in (
+      kept-outcome (a .r) (a .a) (a .pool .now) (l .result) (l .ensures) (c .before .before .before .enum-told .given .1) (j .result) (j .ensures) (c .if1 .left),
+      c .before .keep .ensures ∙ leaf-kept (a .r) (a .a) (a .pool .now) (l .result) (l .ensures) (c .before .before .before .enum-told .given .1) (j .result) (j .ensures),
+    )
 
 pub walk-leaf-spec : {M : Type 1} → statement M
 walk-leaf-spec =

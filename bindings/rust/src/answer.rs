@@ -1,0 +1,363 @@
+//! What a walk or a session answers.
+
+use std::error::Error;
+use std::fmt;
+
+use crate::{ffi, PhysAddr};
+
+/// The answer to an access: where it goes, or what stops it.
+///
+/// A monitor hands a fault to the guest, and takes a refusal as its own
+/// mistake:
+///
+/// ```
+/// use vmsa::{Answer, Fault, PhysAddr, Refusal, Stop};
+///
+/// enum Next {
+///     Copy(PhysAddr),
+///     Inject(Fault),
+///     Report(Refusal),
+/// }
+///
+/// fn next(answer: Answer) -> Next {
+///     match answer {
+///         Ok(found) => Next::Copy(found.output),
+///         Err(Stop::Fault(fault)) => Next::Inject(fault),
+///         Err(Stop::Refused(refusal)) => Next::Report(refusal),
+///     }
+/// }
+/// ```
+pub type Answer = Result<Translation, Stop>;
+
+/// What an access that succeeds is told.
+#[derive(Clone, Copy, Debug, PartialEq, Eq, Hash)]
+pub struct Translation {
+    /// The physical address, below 2 to the bits of output.
+    pub output: PhysAddr,
+    /// The byte of MAIR_EL1 that the leaf picks.
+    pub attribute: u8,
+    /// Shareability, as the leaf has it.
+    pub shareability: Shareability,
+    /// nG: the translation belongs to one address space.
+    pub nonglobal: bool,
+    /// The level of the leaf: 1 or 2 for a block, 3 for a page.
+    pub level: u8,
+    /// This access set the Access flag.
+    pub accessed: bool,
+    /// This access cleared AP\[2\]: the page has become dirty.
+    pub dirtied: bool,
+    /// A TLB may hold the translation.
+    pub cacheable: bool,
+    /// The count of descriptor reads, at most 4; 0 where a session held it.
+    pub reads: u8,
+}
+
+impl Translation {
+    /// Whether the attribute byte says Device memory; it says Normal
+    /// otherwise.
+    pub const fn is_device(&self) -> bool {
+        self.attribute & 0xf0 == 0
+    }
+}
+
+/// The field SH of a leaf.
+#[derive(Clone, Copy, Debug, PartialEq, Eq, Hash)]
+pub enum Shareability {
+    /// 0b00.
+    NonShareable,
+    /// 0b01.
+    Reserved,
+    /// 0b10.
+    OuterShareable,
+    /// 0b11.
+    InnerShareable,
+}
+
+impl Shareability {
+    /// The two bits of the field.
+    pub const fn bits(self) -> u8 {
+        self as u8
+    }
+
+    const fn from_bits(bits: u8) -> Self {
+        match bits & 3 {
+            0 => Self::NonShareable,
+            1 => Self::Reserved,
+            2 => Self::OuterShareable,
+            _ => Self::InnerShareable,
+        }
+    }
+}
+
+/// What a fault is about.
+#[derive(Clone, Copy, Debug, PartialEq, Eq, Hash)]
+pub enum FaultKind {
+    /// A root, table or output address beyond the bits of output.
+    AddressSize,
+    /// No translation: an invalid descriptor, a disabled range, or an address
+    /// outside its range.
+    Translation,
+    /// The Access flag is clear, and the walk does not set it.
+    AccessFlag,
+    /// The leaf does not permit the access, or a fetch from Device memory.
+    Permission,
+    /// External abort on the walk: a descriptor not wholly in the pool.
+    ExternalAbort,
+    /// An unaligned access to Device memory.
+    Alignment,
+}
+
+impl FaultKind {
+    /// The fault status code at a level, as ESR_ELx holds it.
+    pub const fn code(self, level: u8) -> u16 {
+        let level = level as u16;
+        match self {
+            Self::AddressSize => level,
+            Self::Translation => 4 + level,
+            Self::AccessFlag => 8 + level,
+            Self::Permission => 12 + level,
+            Self::ExternalAbort => 20 + level,
+            Self::Alignment => 33,
+        }
+    }
+
+    const fn from_code(code: u16) -> Option<Self> {
+        match code {
+            0..=3 => Some(Self::AddressSize),
+            4..=7 => Some(Self::Translation),
+            8..=11 => Some(Self::AccessFlag),
+            12..=15 => Some(Self::Permission),
+            20..=23 => Some(Self::ExternalAbort),
+            33 => Some(Self::Alignment),
+            _ => None,
+        }
+    }
+}
+
+impl fmt::Display for FaultKind {
+    fn fmt(&self, f: &mut fmt::Formatter<'_>) -> fmt::Result {
+        f.write_str(match self {
+            Self::AddressSize => "Address size fault",
+            Self::Translation => "Translation fault",
+            Self::AccessFlag => "Access flag fault",
+            Self::Permission => "Permission fault",
+            Self::ExternalAbort => "Synchronous External abort on translation table walk",
+            Self::Alignment => "Alignment fault",
+        })
+    }
+}
+
+/// A fault, for the guest.
+///
+/// ```
+/// use vmsa::{Fault, FaultKind};
+///
+/// let fault = Fault {
+///     kind: FaultKind::Permission,
+///     level: 2,
+///     code: 14,
+///     cacheable: true,
+///     reads: 3,
+/// };
+/// assert_eq!(fault.to_string(), "Permission fault, level 2 (0b001110)");
+/// assert_eq!(fault.code, fault.kind.code(fault.level));
+/// ```
+#[derive(Clone, Copy, Debug, PartialEq, Eq, Hash)]
+pub struct Fault {
+    /// What it is about.
+    pub kind: FaultKind,
+    /// The level, 0 to 3; that of an Alignment fault is the leaf's.
+    pub level: u8,
+    /// The fault status code, as ESR_ELx holds it.
+    pub code: u16,
+    /// A TLB may hold the leaf.
+    pub cacheable: bool,
+    /// The count of descriptor reads, at most 4; 0 where a session held the
+    /// leaf.
+    pub reads: u8,
+}
+
+impl fmt::Display for Fault {
+    fn fmt(&self, f: &mut fmt::Formatter<'_>) -> fmt::Result {
+        match self.kind {
+            FaultKind::Alignment => write!(f, "{} (0b{:06b})", self.kind, self.code),
+            kind => write!(f, "{kind}, level {} (0b{:06b})", self.level, self.code),
+        }
+    }
+}
+
+impl Error for Fault {}
+
+/// Why a call is refused. It then changes neither memory nor session.
+///
+/// A [`walk`](crate::walk()) checks 1 to 7 in that order; setting a regime 1
+/// to 5; an access in a session 9, 1, 6, 7; a store 9, 1, 8.
+///
+/// ```
+/// use vmsa::Refusal;
+///
+/// assert_eq!(Refusal::PageCrossing.number(), 7);
+/// assert_eq!(
+///     Refusal::PageCrossing.to_string(),
+///     "refused (7): the access crosses a page boundary",
+/// );
+/// ```
+#[derive(Clone, Copy, Debug, PartialEq, Eq, Hash)]
+pub enum Refusal {
+    /// 1: memory above its limit; pool start or length not a multiple of
+    /// 4,096; pool empty, above its limit, or past the end of the memory.
+    MemoryPool,
+    /// 2: pool address not a multiple of 4,096, or the pool ends above 2^48.
+    PoolAddress,
+    /// 3: T of a range outside 16 to 39.
+    Sizes,
+    /// 4: a root that is not a multiple of 4,096, or not below 2^48.
+    Root,
+    /// 5: an attribute byte is neither 0x00, 0x04, 0x08, 0x0C (Device) nor has
+    /// both halves nonzero (Normal).
+    Attributes,
+    /// 6: size not 1, 2, 4, 8, 16; a fetch whose size is not 4 or address not
+    /// a multiple of 4; a probe whose size is not 1.
+    AccessSize,
+    /// 7: first and last byte lie in different pages.
+    PageCrossing,
+    /// 8: a store's address is not a multiple of 8, or its bytes are not all
+    /// in the pool.
+    StoreAddress,
+    /// 9: the session has no regime yet.
+    NoRegime,
+}
+
+impl Refusal {
+    /// Every refusal, in the order of the numbers.
+    pub const ALL: [Self; 9] = [
+        Self::MemoryPool,
+        Self::PoolAddress,
+        Self::Sizes,
+        Self::Root,
+        Self::Attributes,
+        Self::AccessSize,
+        Self::PageCrossing,
+        Self::StoreAddress,
+        Self::NoRegime,
+    ];
+
+    /// The number, 1 to 9.
+    pub const fn number(self) -> u8 {
+        self as u8 + 1
+    }
+
+    pub(crate) fn from_number(number: u8) -> Option<Self> {
+        Self::ALL
+            .into_iter()
+            .find(|refusal| refusal.number() == number)
+    }
+}
+
+impl fmt::Display for Refusal {
+    fn fmt(&self, f: &mut fmt::Formatter<'_>) -> fmt::Result {
+        let reason = match self {
+            Self::MemoryPool => "the memory or the pool's part of it is out of bounds",
+            Self::PoolAddress => "the pool's physical address is out of bounds",
+            Self::Sizes => "a size field of the regime is out of bounds",
+            Self::Root => "a root is unaligned or not below 2^48",
+            Self::Attributes => "an attribute byte is neither Device nor Normal memory",
+            Self::AccessSize => "the size or alignment does not fit the kind of access",
+            Self::PageCrossing => "the access crosses a page boundary",
+            Self::StoreAddress => "the descriptor is unaligned or not in the pool",
+            Self::NoRegime => "the session has no regime",
+        };
+        write!(f, "refused ({}): {reason}", self.number())
+    }
+}
+
+impl Error for Refusal {}
+
+/// What stops an access.
+#[derive(Clone, Copy, Debug, PartialEq, Eq, Hash)]
+pub enum Stop {
+    /// The guest's tables do not let it through.
+    Fault(Fault),
+    /// The call itself makes no sense.
+    Refused(Refusal),
+}
+
+impl Stop {
+    /// The fault, where it is one.
+    pub const fn fault(self) -> Option<Fault> {
+        match self {
+            Self::Fault(fault) => Some(fault),
+            Self::Refused(_) => None,
+        }
+    }
+
+    /// The refusal, where it is one.
+    pub const fn refusal(self) -> Option<Refusal> {
+        match self {
+            Self::Fault(_) => None,
+            Self::Refused(refusal) => Some(refusal),
+        }
+    }
+}
+
+impl fmt::Display for Stop {
+    fn fmt(&self, f: &mut fmt::Formatter<'_>) -> fmt::Result {
+        match self {
+            Self::Fault(fault) => fault.fmt(f),
+            Self::Refused(refusal) => refusal.fmt(f),
+        }
+    }
+}
+
+impl Error for Stop {}
+
+impl From<Fault> for Stop {
+    fn from(fault: Fault) -> Self {
+        Self::Fault(fault)
+    }
+}
+
+impl From<Refusal> for Stop {
+    fn from(refusal: Refusal) -> Self {
+        Self::Refused(refusal)
+    }
+}
+
+/// For what the library never answers.
+const OUTSIDE: &str = "the linked library does not have this crate's interface";
+
+impl From<ffi::Answer> for Answer {
+    fn from(words: ffi::Answer) -> Self {
+        match words.tag {
+            0 => Ok(Translation {
+                output: PhysAddr(words.output),
+                attribute: words.attribute,
+                shareability: Shareability::from_bits(words.shareability),
+                nonglobal: words.nonglobal != 0,
+                level: words.level,
+                accessed: words.accessed != 0,
+                dirtied: words.dirtied != 0,
+                cacheable: words.cacheable != 0,
+                reads: words.reads,
+            }),
+            1 => Err(Stop::Fault(Fault {
+                kind: FaultKind::from_code(words.code).expect(OUTSIDE),
+                level: words.level,
+                code: words.code,
+                cacheable: words.cacheable != 0,
+                reads: words.reads,
+            })),
+            _ => Err(Stop::Refused(
+                Refusal::from_number(words.refusal).expect(OUTSIDE),
+            )),
+        }
+    }
+}
+
+/// What a set regime or a store gives: 0, or the number of the refusal.
+pub(crate) fn accepted(number: u8) -> Result<(), Refusal> {
+    match number {
+        0 => Ok(()),
+        _ => Err(Refusal::from_number(number).expect(OUTSIDE)),
+    }
+}

@@ -1,0 +1,123 @@
+//! The session: a regime and 64 TLB entries.
+
+use std::fmt;
+
+use crate::answer::accepted;
+use crate::{ffi, Access, Answer, PhysAddr, Refusal, Regime};
+
+/// A session: the regime last accepted, and 64 TLB entries.
+///
+/// A page's entry is the one of its number mod 64. A page held there is
+/// answered with 0 reads, unless the access would mark it dirty; that walks
+/// again. Between a [`store`](Session::store) and the next access, call
+/// [`invalidate_all`](Session::invalidate_all): each access is then answered as
+/// by the plain [`walk`](crate::walk()) of that moment, its count of reads
+/// apart.
+///
+/// ```
+/// use vmsa::{Access, PhysAddr, Pool, Range, Regime, Session, Stop, VirtAddr};
+///
+/// let mut memory = vec![0; 0x1000];
+/// let regime = Regime::new()
+///     .pool(Pool::new(0, 0x1000, PhysAddr(0x4000_0000)))
+///     .range0(Range::new(PhysAddr(0x4000_0000), 39))
+///     .ha(true)
+///     .hd(true)
+///     .attributes([0xff; 8]);
+///
+/// let mut session = Session::new();
+/// session.set_regime(&memory, &regime)?;
+///
+/// // A writable-clean block of 2 MiB for the first entry of the root.
+/// let root = PhysAddr(0x4000_0000);
+/// session.store(&mut memory, root, 0x0008_0000_8020_0781)?;
+///
+/// let write = Access::write(VirtAddr(0x1_2340), 8);
+/// let first = session.access(&mut memory, &write)?;
+/// assert_eq!(first.output, PhysAddr(0x8021_2340));
+/// assert!(first.dirtied);
+/// assert_eq!(first.reads, 1);
+/// assert_eq!(session.access(&mut memory, &write)?.reads, 0);
+///
+/// // Once the block is copied, it is made writable-clean again.
+/// session.store(&mut memory, root, 0x0008_0000_8020_0781)?;
+/// session.invalidate_all();
+/// assert!(session.access(&mut memory, &write)?.dirtied);
+/// # Ok::<(), Stop>(())
+/// ```
+#[derive(Clone, PartialEq, Eq)]
+pub struct Session {
+    pub(crate) words: ffi::Session,
+}
+
+impl Session {
+    /// The fresh session: no regime, every entry empty.
+    pub fn new() -> Self {
+        Self {
+            words: ffi::session_empty(),
+        }
+    }
+
+    /// Sets the regime and empties every entry.
+    ///
+    /// # Errors
+    ///
+    /// [`Refusal`] 1 to 5, checked in that order.
+    pub fn set_regime(&mut self, memory: &[u8], regime: &Regime) -> Result<(), Refusal> {
+        accepted(ffi::session_set_regime(
+            &mut self.words,
+            memory,
+            regime.into(),
+        ))
+    }
+
+    /// Answers an access from its page's entry, or else by a walk.
+    ///
+    /// # Errors
+    ///
+    /// A fault; or [`Refusal`] 9, 1, 6 or 7, checked in that order.
+    pub fn access(&mut self, memory: &mut [u8], access: &Access) -> Answer {
+        ffi::session_access(&mut self.words, memory, access.into()).into()
+    }
+
+    /// Stores a descriptor at a physical address in the pool. No entry
+    /// changes.
+    ///
+    /// # Errors
+    ///
+    /// [`Refusal`] 9, 1 or 8, checked in that order.
+    pub fn store(
+        &mut self,
+        memory: &mut [u8],
+        address: PhysAddr,
+        descriptor: u64,
+    ) -> Result<(), Refusal> {
+        accepted(ffi::session_store(
+            &mut self.words,
+            memory,
+            address.0,
+            descriptor,
+        ))
+    }
+
+    /// Empties every entry, and changes nothing else.
+    pub fn invalidate_all(&mut self) {
+        ffi::session_invalidate_all(&mut self.words);
+    }
+}
+
+impl Default for Session {
+    fn default() -> Self {
+        Self::new()
+    }
+}
+
+impl fmt::Debug for Session {
+    fn fmt(&self, f: &mut fmt::Formatter<'_>) -> fmt::Result {
+        let held = self.words.entries.iter().filter(|entry| entry.held != 0);
+        f.debug_struct("Session")
+            .field("set", &(self.words.set != 0))
+            .field("held", &held.count())
+            .finish_non_exhaustive()
+    }
+}

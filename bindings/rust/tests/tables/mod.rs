@@ -1,0 +1,52 @@
+//! Tables for the tests: four of them, one leaf, in a pool of 65,536 bytes.
+
+#![allow(dead_code)]
+
+use vmsa::{Access, OutputSize, PhysAddr, Pool, Range, Regime, VirtAddr};
+
+/// Physical address of the pool, and of its root.
+pub const POOL: u64 = 0x4000_0000;
+
+/// Offset of the leaf in the pool.
+pub const LEAF: usize = 0x3018;
+
+/// An address of the page that the leaf maps.
+pub const ADDRESS: VirtAddr = VirtAddr(0x40_3abc);
+
+/// The leaf: writable-clean, for EL0 too, its Access flag clear.
+pub const CLEAN: u64 = 0x0008_0000_8000_53c3;
+
+pub fn put(memory: &mut [u8], offset: usize, descriptor: u64) {
+    memory[offset..offset + 8].copy_from_slice(&descriptor.to_le_bytes());
+}
+
+pub fn get(memory: &[u8], offset: usize) -> u64 {
+    u64::from_le_bytes(memory[offset..offset + 8].try_into().unwrap())
+}
+
+pub fn memory() -> Vec<u8> {
+    let mut memory = vec![0; 0x10000];
+    put(&mut memory, 0x0000, 0x4000_1003);
+    put(&mut memory, 0x1000, 0x4000_2003);
+    put(&mut memory, 0x2010, 0x4000_3003);
+    put(&mut memory, LEAF, CLEAN);
+    memory
+}
+
+pub fn regime() -> Regime {
+    Regime::new()
+        .pool(Pool::new(0, 0x10000, PhysAddr(POOL)))
+        .range0(Range::new(PhysAddr(POOL), 16))
+        .output(OutputSize::Bits48)
+        .ha(true)
+        .hd(true)
+        .attributes([0xff; 8])
+}
+
+pub fn read() -> Access {
+    Access::read(ADDRESS, 4).el0()
+}
+
+pub fn write() -> Access {
+    Access::write(ADDRESS, 4).el0()
+}
