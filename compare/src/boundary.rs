@@ -224,87 +224,40 @@ pub trait Subject: Clone {
     }
 }
 
-/// The parts of the library's session. They are here for their layout alone:
-/// a session is handed on as it came, and nothing looks into it.
+/// The parts of the library's session. They are here for their size alone:
+/// a session is lent as it came, and nothing looks into it.
 mod layout {
     #![allow(dead_code)]
-    use super::PLACES;
-
-    #[repr(C)]
-    #[derive(Clone, Copy)]
-    struct CPool {
-        start: usize,
-        length: usize,
-        address: u64,
-    }
-
-    #[repr(C)]
-    #[derive(Clone, Copy)]
-    struct CRange {
-        root: u64,
-        tsz: u8,
-        disabled: u8,
-    }
-
-    #[repr(C)]
-    #[derive(Clone, Copy)]
-    struct CHeldRegime {
-        pool: CPool,
-        range0: CRange,
-        range1: CRange,
-        output: u8,
-        ha: u8,
-        hd: u8,
-        wxn: u8,
-        attributes: u64,
-    }
-
-    #[repr(C)]
-    #[derive(Clone, Copy)]
-    struct CLeaf {
-        value: u64,
-        left: u8,
-    }
+    use super::{CRegime, PLACES};
 
     #[repr(C)]
     #[derive(Clone, Copy)]
     struct CEntry {
-        held: u8,
         page: u64,
-        leaf: CLeaf,
+        value: u64,
+        left: u8,
+        held: u8,
     }
 
     #[repr(C)]
     #[derive(Clone, Copy)]
     pub struct CSession {
-        set: u8,
-        regime: CHeldRegime,
+        regime: CRegime,
         entries: [CEntry; PLACES],
+        set: u8,
     }
 }
 
 pub use layout::CSession;
 
-#[repr(C)]
-pub struct CChanged {
-    session: CSession,
-    refusal: u8,
-}
-
-#[repr(C)]
-pub struct CAccessed {
-    session: CSession,
-    answer: CAnswer,
-}
-
 /// The library's functions on a session.
 #[derive(Clone, Copy)]
 pub struct SessionFunctions {
     pub empty: unsafe extern "C" fn() -> CSession,
-    pub set_regime: unsafe extern "C" fn(CSession, *const u8, usize, CRegime) -> CChanged,
-    pub access: unsafe extern "C" fn(CSession, *mut u8, usize, CAccess) -> CAccessed,
-    pub store: unsafe extern "C" fn(CSession, *mut u8, usize, u64, u64) -> CChanged,
-    pub invalidate_all: unsafe extern "C" fn(CSession) -> CSession,
+    pub set_regime: unsafe extern "C" fn(*mut CSession, *const u8, usize, CRegime) -> u8,
+    pub access: unsafe extern "C" fn(*mut CSession, *mut u8, usize, CAccess) -> CAnswer,
+    pub store: unsafe extern "C" fn(*mut CSession, *mut u8, usize, u64, u64) -> u8,
+    pub invalidate_all: unsafe extern "C" fn(*mut CSession),
 }
 
 /// A session of the library under test.
@@ -319,9 +272,10 @@ impl LibrarySession {
     ///
     /// # Safety
     ///
-    /// The functions must touch no byte but the `length` bytes they are lent,
-    /// must write none of those lent as `*const`, and must be fit to be
-    /// called with any numbers and with any session that one of them gave.
+    /// The functions must touch no byte but the session and the `length`
+    /// bytes they are lent, must write none of those lent as `*const`, and
+    /// must be fit to be called with any numbers and with any session that
+    /// `empty` gave and the others left.
     pub unsafe fn fresh(functions: SessionFunctions) -> Self {
         LibrarySession {
             functions,
@@ -334,33 +288,27 @@ impl Subject for LibrarySession {
     fn set_regime(&mut self, memory: &mut [u8], regime: &Regime, spelling: Spelling) -> u8 {
         let (start, length) = (memory.as_mut_ptr().cast_const(), memory.len());
         let regime = spelling.regime(regime);
-        // SAFETY: pointer and length are those of one slice that is ours
-        // alone for the time of the call; the rest is promised to `fresh`.
-        let changed = unsafe { (self.functions.set_regime)(self.session, start, length, regime) };
-        self.session = changed.session;
-        changed.refusal
+        // SAFETY: pointer and length are those of one slice that, like the
+        // session, is ours alone for the time of the call; the rest is
+        // promised to `fresh`.
+        unsafe { (self.functions.set_regime)(&mut self.session, start, length, regime) }
     }
 
     fn access(&mut self, memory: &mut [u8], access: &Access, spelling: Spelling) -> CAnswer {
         let (start, length) = (memory.as_mut_ptr(), memory.len());
         let access = spelling.access(access);
         // SAFETY: as for `set_regime`.
-        let accessed = unsafe { (self.functions.access)(self.session, start, length, access) };
-        self.session = accessed.session;
-        accessed.answer
+        unsafe { (self.functions.access)(&mut self.session, start, length, access) }
     }
 
     fn store(&mut self, memory: &mut [u8], address: u64, value: u64) -> u8 {
         let (start, length) = (memory.as_mut_ptr(), memory.len());
         // SAFETY: as for `set_regime`.
-        let changed =
-            unsafe { (self.functions.store)(self.session, start, length, address, value) };
-        self.session = changed.session;
-        changed.refusal
+        unsafe { (self.functions.store)(&mut self.session, start, length, address, value) }
     }
 
     fn invalidate_all(&mut self) {
-        // SAFETY: promised to `fresh`.
-        self.session = unsafe { (self.functions.invalidate_all)(self.session) };
+        // SAFETY: as for `set_regime`.
+        unsafe { (self.functions.invalidate_all)(&mut self.session) }
     }
 }

@@ -8,8 +8,7 @@
 mod comparison;
 
 use compare::boundary::{
-    CAccess, CAccessed, CAnswer, CChanged, CRegime, CSession, Library, LibrarySession,
-    SessionFunctions,
+    CAccess, CAnswer, CRegime, CSession, Library, LibrarySession, SessionFunctions,
 };
 use compare::{cases, scripts};
 use comparison::Comparison;
@@ -21,25 +20,25 @@ extern "C" {
     fn vmsa_walk(memory: *mut u8, length: usize, regime: CRegime, access: CAccess) -> CAnswer;
     fn vmsa_session_empty() -> CSession;
     fn vmsa_session_set_regime(
-        session: CSession,
+        session: *mut CSession,
         memory: *const u8,
         length: usize,
         regime: CRegime,
-    ) -> CChanged;
+    ) -> u8;
     fn vmsa_session_access(
-        session: CSession,
+        session: *mut CSession,
         memory: *mut u8,
         length: usize,
         access: CAccess,
-    ) -> CAccessed;
+    ) -> CAnswer;
     fn vmsa_session_store(
-        session: CSession,
+        session: *mut CSession,
         memory: *mut u8,
         length: usize,
         address: u64,
         value: u64,
-    ) -> CChanged;
-    fn vmsa_session_invalidate_all(session: CSession) -> CSession;
+    ) -> u8;
+    fn vmsa_session_invalidate_all(session: *mut CSession);
 }
 
 const SESSION: SessionFunctions = SessionFunctions {

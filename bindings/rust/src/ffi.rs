@@ -4,6 +4,9 @@
 
 use std::mem::{offset_of, size_of};
 
+#[cfg(test)]
+mod tests;
+
 #[repr(C)]
 #[derive(Clone, Copy, Debug, PartialEq, Eq)]
 pub struct Regime {

@@ -84,14 +84,16 @@ fn pool_address() {
     assert_eq!(code(ask(&memory, &at(POOL + 0x1000), &read())), 20);
 }
 
-/// Two more roots: 0x40004000 leads to a block of level 1, and the third
-/// table's entry 0 is a block of level 2 for a walk that starts at level 1.
+/// A second root at 0x40004000 that leads to a block of level 1, and in the
+/// second table a block of level 2 for a walk that starts at level 1. Entries
+/// 0 and 511 of each root are the same, for the two ranges.
 fn roots() -> Vec<u8> {
     let mut memory = memory();
     put(&mut memory, 0x0ff8, 0x4000_1003);
-    put(&mut memory, 0x4000, 0x4000_5003);
-    put(&mut memory, 0x5000, 0xc000_0000 | AF | AP1 | 1);
     put(&mut memory, 0x1010, 0xa000_0000 | AF | AP1 | 1);
+    put(&mut memory, 0x4000, 0x4000_5003);
+    put(&mut memory, 0x4ff8, 0x4000_5003);
+    put(&mut memory, 0x5000, 0xc000_0000 | AF | AP1 | 1);
     memory
 }
 
@@ -137,8 +139,7 @@ fn range_1() {
     let upper = Access::read(UPPER, 4).el0();
     for (root, tsz, disabled, expected) in [
         (POOL, 16, false, Ok(0x8000_5abc)),
-        (POOL + 0x4000, 16, false, Err(4)),
-        (POOL + 0x4000, 25, false, Err(6)),
+        (POOL + 0x4000, 16, false, Ok(0xc040_3abc)),
         (POOL, 25, false, Ok(0xa000_3abc)),
         (POOL, 16, true, Err(4)),
     ] {

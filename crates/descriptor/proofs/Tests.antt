@@ -7,9 +7,12 @@ use lib.Dec.{leb, ltb, eqb}
 use borrow.Author.Tests.{lt-ltb, le-ltb, ltb-true, ltb-false}
 use Rattle.descriptor.specs.Bits.{pick}
 
--- true is not false
+-- anything follows from 0 ≡ 1, and from true ≡ false
+pub clash : {A : Type 0} → _≡_ {A = ℕ} 0 1 → A
+clash z = absurd (let y : _≡_ {A = ℕ} 0 1 = z in omega arith)
+
 pub differ : {A : Type 0} → true ≡ false → A
-differ e = absurd (let z : _≡_ {A = ℕ} 0 1 = cc in omega arith)
+differ e = clash (cc)
 
 by-value : (a b c d : ℕ) (t : Bool) → ltb a b ≡ t → (a < b → c < d) → (b ≤ a → d ≤ c) → t ≡ ltb c d
 by-value a b c d true e p q = sym (lt-ltb c d (p (ltb-true a b e)))

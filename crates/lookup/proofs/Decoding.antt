@@ -8,18 +8,15 @@ use lib.Dec.{leb, eqb}
 use lib.Pow.{pow-pos, pow-add, shr-shr}
 use borrow.Author.Tests.{eqb-true, eqb-false, leb-true, leb-false}
 use Rattle.descriptor.specs.Bits.{pick, bit}
-use Rattle.descriptor.proofs.Tests.{and-true, or-false, differ, pick-both}
+use Rattle.descriptor.proofs.Tests.{clash, and-true, or-false, differ, pick-both}
 use Rattle.vmsa.specs.Limits.{addressLimit}
 use Rattle.vmsa.specs.Geometry.{pageSize, shiftOf, span, blockAt, cut, Paged}
-use Rattle.vmsa.proofs.Geometry.{cut-lt}
+use Rattle.vmsa.proofs.Geometry.{cut-lt, shift-least}
 use Rattle.vmsa.specs.declared.PhysAddr.{PhysAddr}
 use Rattle.vmsa.specs.declared.FaultKind.the-variants.{Translation, AddressSize}
 use Rattle.lookup.specs.declared.Next.{Next}
 use Rattle.lookup.specs.declared.Next.the-variants as next
 use Rattle.lookup.specs.Steps.{invalid, isTable, addressIn, decoded}
-
-clash : {A : Type 0} → _≡_ {A = ℕ} 0 1 → A
-clash z = absurd (eqb-false 0 1 refl z)
 
 -- ---- a leaf
 
@@ -143,10 +140,6 @@ cut-from v n h =
 pub cut-same : (v w n : ℕ) → 12 ≤ n → v % addressLimit / 4096 ≡ w % addressLimit / 4096 → cut v (2 ^ n) ≡ cut w (2 ^ n)
 unfolding cut
 cut-same v w n h e = rw (cut-from (v % addressLimit) n h, cut-from (w % addressLimit) n h, e)
-
-shift-least : (p left : ℕ) → 12 ≤ p → 12 ≤ shiftOf p left
-unfolding shiftOf
-shift-least p left h = omega arith
 
 address-same : (p left v w : ℕ) → 12 ≤ p → bit 1 v ≡ bit 1 w → v % addressLimit / 4096 ≡ w % addressLimit / 4096 → addressIn p left v ≡ addressIn p left w
 unfolding addressIn isTable pageSize span

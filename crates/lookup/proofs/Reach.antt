@@ -9,7 +9,7 @@ use lib.ListN.{length}
 use borrow.Author.Tests.{eqb-false, leb-true}
 use Rattle.descriptor.specs.Bytes.{desc}
 use Rattle.descriptor.specs.Bits.{pick}
-use Rattle.descriptor.proofs.Tests.{and-true, pick-both}
+use Rattle.descriptor.proofs.Tests.{clash, and-true, pick-both}
 use Rattle.vmsa.specs.Limits.{pageBits, tszLeast, Sized}
 use Rattle.vmsa.specs.Geometry.{levelOf, pageSize, span, strideBits, firstLeft, outputLimit, Paged}
 use Rattle.vmsa.proofs.Geometry.{paged, first-le}
@@ -24,9 +24,6 @@ use Rattle.lookup.specs.declared.Context.{Context}
 use Rattle.lookup.specs.Trace.{End, fault, leaf, Trace, ended}
 use Rattle.lookup.specs.Steps.{decoded, fetched, onward, onWord, followed, entryAt, entered, descend, upper, rangeOf, outside, contextOf, locate}
 use Rattle.lookup.proofs.Decoding.{is-table, aligned8}
-
-clash : {A : Type 0} → _≡_ {A = ℕ} 0 1 → A
-clash z = absurd (eqb-false 0 1 refl z)
 
 -- ---- the length of the visited list
 

@@ -11,6 +11,7 @@ use Rattle.descriptor.proofs.Tests.{and-true, or-none, differ}
 use Rattle.descriptor.proofs.BitLaws.{clear-above, clear-below, clear-bit, clear-other}
 use Rattle.vmsa.specs.Limits.{addressLimit, pageBits}
 use Rattle.vmsa.specs.Geometry.{levelOf, shiftOf, span, cut}
+use Rattle.vmsa.proofs.Geometry.{shift-least}
 use Rattle.vmsa.specs.Answers.{Result, success, fault, refused, cacheableIn, dirtiedIn}
 use Rattle.vmsa.specs.Kinds.{isProbe, writes}
 use Rattle.vmsa.specs.Fields.{attributeIndex, ap1, ap2, shareability, af, nonglobal, dbm, pxn, uxn, clearAp2}
@@ -129,13 +130,9 @@ module _ (v : ℕ) where
   address-cleared : clearAp2 v % addressLimit / 4096 ≡ v % addressLimit / 4096
   address-cleared = field-mod (clearAp2 v) 36 12 ∙ ap (λ (x : ℕ). x % 2 ^ 36) (clear-above 7 v 12 (lit< tt)) ∙ sym (field-mod v 36 12)
 
-shift-least : (left : ℕ) → 12 ≤ shiftOf pageBits left
-unfolding shiftOf
-shift-least left = omega arith
-
 cut-cleared : (v left : ℕ) → cut (clearAp2 v) (span pageBits left) ≡ cut v (span pageBits left)
 unfolding span
-cut-cleared v left = cut-same (clearAp2 v) v (shiftOf pageBits left) (shift-least left) (address-cleared v)
+cut-cleared v left = cut-same (clearAp2 v) v (shiftOf pageBits left) (shift-least pageBits left (lit≤ tt)) (address-cleared v)
 
 -- ---- the tests on such a leaf
 

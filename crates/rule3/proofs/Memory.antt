@@ -10,7 +10,7 @@ use lib.Pow.{field as field-mod}
 use borrow.Author.Tests.{eqb-true, eqb-false, eq-eqb, ne-eqb, leb-true}
 use Rattle.descriptor.specs.Bytes.{Bytes, desc, put as putDescriptor}
 use Rattle.descriptor.specs.Bits.{pick, bit, setBit, clearBit}
-use Rattle.descriptor.proofs.Tests.{and-true, or-false, differ}
+use Rattle.descriptor.proofs.Tests.{clash, and-true, or-false, differ}
 use Rattle.descriptor.proofs.Laws.{length-put, desc-put-aligned}
 use Rattle.descriptor.proofs.Numbers.{desc-small, bytes-take, bytes-drop}
 use Rattle.descriptor.proofs.BitLaws.{set-above, clear-above, set-other, clear-other}
@@ -42,9 +42,6 @@ use Rattle.session.specs.Model.{Spot, lost, found as foundAt, revalued, put}
 use Rattle.session.specs.Ours.{usable, offsetOf, spotAt, spotOf, located, accessedIn, stamped, ours}
 use Rattle.session.proofs.Walking.{usable-sized, usable-root, put-is}
 use Rattle.rule3.specs.Lawful.{restamped, Sound}
-
-clash : {A : Type 0} → _≡_ {A = ℕ} 0 1 → A
-clash z = absurd (let y : _≡_ {A = ℕ} 0 1 = z in omega arith)
 
 -- ---- where a leaf is found
 

@@ -4,15 +4,12 @@ use mathlib.Core.Bool.{Bool, true, false}
 use mathlib.Core.List.{List, [], _∷_}
 use mathlib.Core.Path.{_≡_, refl, subst}
 use native.Mathlib.Omega.{arith}
+use Rattle.descriptor.proofs.Tests.{clash}
 use Rattle.descriptor.specs.Bits.{pick}
 use Rattle.vmsa.specs.declared.Refusal.{Refusal}
 use Rattle.checks.specs.declared.Checked.the-variants.{Refused}
 use Rattle.checks.specs.Order.{firstOf}
 use Rattle.rules.specs.Rule1.{FirstRow, here, later}
-
--- what follows from two constructors that are equal
-pub clash : {A : Type 0} → _≡_ {A = ℕ} 0 1 → A
-clash z = absurd (let y : _≡_ {A = ℕ} 0 1 = z in omega arith)
 
 pub first-refuses : {rows : List (Bool × Refusal)} {x : Refusal} → FirstRow rows x → firstOf rows ≡ Refused x
 first-refuses here = refl

@@ -10,7 +10,7 @@ use lib.ListN.{length}
 use borrow.Author.Tests.{eqb-true, not-false}
 use Rattle.descriptor.specs.Bytes.{Bytes, put}
 use Rattle.descriptor.specs.Bits.{pick}
-use Rattle.descriptor.proofs.Tests.{pick-both}
+use Rattle.descriptor.proofs.Tests.{clash, pick-both}
 use Rattle.descriptor.proofs.Laws.{length-put}
 use Rattle.vmsa.specs.Limits.{pageBits}
 use Rattle.vmsa.specs.Geometry.{levelOf, pageSize, unaligned}
@@ -34,7 +34,6 @@ use Rattle.walk.proofs.Ends.{Found, found, ready, aligned-zero}
 use Rattle.rules.specs.Steps.{leafSteps}
 use Rattle.rules.specs.Rule2.{stepsOf, traceOf, LeafOf, offset, Placed}
 use Rattle.walk.proofs.Parts.{with-own, with-put, length-part, desc-part}
-use Rattle.rules.proofs.Refusals.{clash}
 use Rattle.rules.proofs.StepLaws.{Fault, firstFault, endFault, walk-steps}
 use Rattle.rules.proofs.Outcomes.{leafAt, endCacheable, leaf-passes, pool-by}
 

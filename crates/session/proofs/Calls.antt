@@ -10,7 +10,7 @@ use lib.ListN.{length, take, drop}
 use borrow.Author.Tests.{ltb-false, eqb-true, not-false}
 use Rattle.descriptor.specs.Bytes.{put as putDescriptor}
 use Rattle.descriptor.specs.Bits.{pick}
-use Rattle.descriptor.proofs.Tests.{or-false}
+use Rattle.descriptor.proofs.Tests.{clash, or-false}
 use Rattle.descriptor.proofs.Laws.{put-part}
 use Rattle.vmsa.specs.Limits.{Sized}
 use Rattle.vmsa.specs.Words.{flag, regimeOf}
@@ -40,9 +40,6 @@ use Rattle.session.specs.Model.{Walked, lost, walkFrom, Stepped, Session
 use Rattle.session.specs.Ours.{usable, offsetOf, located, ours}
 use Rattle.session.specs.View.{sessionView, stepped, walkedView, Low}
 use Rattle.session.proofs.Walking.{first-append, usable-sized, usable-root, put-is, walkedPool, walked-pool}
-
-clash : {A : Type 0} → _≡_ {A = ℕ} 0 1 → A
-clash z = absurd (let y : _≡_ {A = ℕ} 0 1 = z in omega arith)
 
 -- ---- the checks of each call
 

@@ -9,7 +9,7 @@ use lib.Dec.{leb, eqb}
 use lib.ListN.{getD, set, List·getD-map}
 use borrow.Author.Tests.{eq-eqb, ne-eqb, leb-true, le-leb}
 use Rattle.descriptor.specs.Bits.{pick}
-use Rattle.descriptor.proofs.Tests.{and-true}
+use Rattle.descriptor.proofs.Tests.{clash, and-true}
 use Rattle.vmsa.specs.Words.{flag}
 use Rattle.vmsa.specs.Answers.{dirtiedIn}
 use Rattle.vmsa.specs.declared.Regime.{Regime}
@@ -21,9 +21,6 @@ use Rattle.session.specs.Replies.{Reply, answered}
 use Rattle.session.specs.Model.{Entry, empty, holds, heldIn, held, entryOf, Stepped, learn, recall, accessHeld, walked}
 use Rattle.session.specs.Ours.{judged, ours}
 use Rattle.session.specs.View.{entryView, noEntry, sessionView, stepped, answerOf, entryAnswer}
-
-clash : {A : Type 0} → _≡_ {A = ℕ} 0 1 → A
-clash z = absurd (let y : _≡_ {A = ℕ} 0 1 = z in omega arith)
 
 -- ---- what an entry holds of a page
 

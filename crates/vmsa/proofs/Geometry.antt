@@ -20,6 +20,10 @@ pub shift-le : (p left : ℕ) → p ≤ 16 → left ≤ 3 → shiftOf p left ≤
 unfolding shiftOf
 shift-le p left h k = omega (arith, stride-le p left h k)
 
+pub shift-least : (p left : ℕ) → 12 ≤ p → 12 ≤ shiftOf p left
+unfolding shiftOf
+shift-least p left h = omega arith
+
 pub first-le : (p t : ℕ) → Paged p → tszLeast ≤ t → firstLeft p t ≤ 3
 unfolding firstLeft
 first-le p t g k =

@@ -10,6 +10,7 @@ use native.Mathlib.Omega.{arith}
 use lib.ListN.{length, take, drop}
 use lib.Seq.{drop-drop}
 use borrow.Author.Tests.{eqb-true, not-false}
+use Rattle.descriptor.proofs.Tests.{clash}
 use Rattle.descriptor.specs.Bytes.{put}
 use Rattle.descriptor.specs.Bits.{pick}
 use Rattle.vmsa.specs.Limits.{pageBits, Sized}
@@ -36,9 +37,6 @@ use Rattle.permission.specs.declared.Verdict.{Verdict}
 use Rattle.permission.specs.Decision.{decision, seen}
 use Rattle.walk.proofs.Parts.{put-back}
 use Rattle.walk.specs.Walk.{Outcome, traced, outcome, settled, walkPool, keptOf, keptPool, walk}
-
-clash : {A : Type 0} → _≡_ {A = ℕ} 0 1 → A
-clash z = absurd (let y : _≡_ {A = ℕ} 0 1 = z in omega arith)
 
 -- a trace that ends in this leaf, and one that ends in this fault
 pub record AtLeaf (t : Trace) (l : Located) : Type 0 where

@@ -1,0 +1,441 @@
+//! The interface by its numbers: what the safe form cannot say.
+
+use super::*;
+
+const POOL: u64 = 0x4000_0000;
+const LEAF: usize = 0x3018;
+const CLEAN: u64 = 0x0008_0000_8000_53c3;
+const AF: u64 = 1 << 10;
+const AP2: u64 = 1 << 7;
+
+const REGIME: Regime = Regime {
+    start: 0,
+    length: 0x10000,
+    address: POOL,
+    root0: POOL,
+    root1: POOL,
+    attributes: u64::MAX,
+    tsz0: 16,
+    tsz1: 16,
+    disabled0: 0,
+    disabled1: 0,
+    output: 5,
+    ha: 1,
+    hd: 1,
+    wxn: 0,
+};
+
+const READ: Access = Access {
+    address: 0x40_3abc,
+    size: 4,
+    el0: 1,
+    kind: 0,
+};
+
+const WRITE: Access = Access { kind: 1, ..READ };
+
+fn put(memory: &mut [u8], offset: usize, descriptor: u64) {
+    memory[offset..offset + 8].copy_from_slice(&descriptor.to_le_bytes());
+}
+
+fn memory() -> Vec<u8> {
+    let mut memory = vec![0; 0x10000];
+    put(&mut memory, 0x0000, 0x4000_1003);
+    put(&mut memory, 0x1000, 0x4000_2003);
+    put(&mut memory, 0x2010, 0x4000_3003);
+    put(&mut memory, LEAF, CLEAN);
+    memory
+}
+
+fn ask(regime: Regime, access: Access) -> Answer {
+    walk(&mut memory(), regime, access)
+}
+
+fn session(regime: Regime) -> Session {
+    let mut session = session_empty();
+    assert_eq!(session_set_regime(&mut session, &memory(), regime), 0);
+    session
+}
+
+#[test]
+fn answers_hold_nothing_else() {
+    let success = Answer {
+        output: 0x8000_5abc,
+        level: 3,
+        attribute: 0xff,
+        shareability: 3,
+        accessed: 1,
+        dirtied: 1,
+        cacheable: 1,
+        reads: 4,
+        ..Answer::default()
+    };
+    assert_eq!(ask(REGIME, WRITE), success);
+    let fault = Answer {
+        tag: 1,
+        code: 15,
+        level: 3,
+        reads: 4,
+        ..Answer::default()
+    };
+    assert_eq!(ask(Regime { hd: 0, ..REGIME }, WRITE), fault);
+    let refused = Answer {
+        tag: 2,
+        refusal: 3,
+        ..Answer::default()
+    };
+    assert_eq!(ask(Regime { tsz1: 40, ..REGIME }, WRITE), refused);
+}
+
+#[test]
+fn flags_are_true_unless_0() {
+    let upper = Access {
+        address: READ.address | 0xffff << 48,
+        ..READ
+    };
+    let fetch = Access { kind: 3, ..READ };
+    for flag in 1..=255 {
+        let disabled0 = Regime {
+            disabled0: flag,
+            ..REGIME
+        };
+        let disabled1 = Regime {
+            disabled1: flag,
+            ..REGIME
+        };
+        assert_eq!(ask(disabled0, READ).code, 4);
+        assert_eq!(ask(disabled0, upper).tag, 0);
+        assert_eq!(ask(disabled1, upper).code, 4);
+        assert_eq!(ask(disabled1, READ).tag, 0);
+
+        let updates = Regime {
+            ha: flag,
+            hd: flag,
+            ..REGIME
+        };
+        assert_eq!(ask(updates, WRITE), ask(REGIME, WRITE));
+        let wxn = Regime {
+            wxn: flag,
+            ..REGIME
+        };
+        assert_eq!(ask(REGIME, fetch).tag, 0);
+        assert_eq!(ask(wxn, fetch).code, 15);
+
+        // An EL1 fetch faults, for EL0 may write the page.
+        let el0 = Access { el0: flag, ..fetch };
+        assert_eq!(ask(REGIME, el0).tag, 0);
+    }
+    assert_eq!(ask(REGIME, Access { el0: 0, ..fetch }).code, 15);
+}
+
+#[test]
+fn kinds_above_5() {
+    let probe = |kind| Access {
+        size: 1,
+        kind,
+        ..READ
+    };
+    let read_only = {
+        let mut memory = memory();
+        put(&mut memory, LEAF, CLEAN | AF);
+        memory
+    };
+    let regime = Regime { hd: 0, ..REGIME };
+    let answer = |kind| walk(&mut read_only.clone(), regime, probe(kind));
+    assert_eq!(answer(4).tag, 0);
+    assert_eq!(answer(5).code, 15);
+    for kind in 6..=255 {
+        assert_eq!(answer(kind), answer(5));
+        assert_eq!(ask(REGIME, probe(kind)), ask(REGIME, probe(5)));
+    }
+}
+
+#[test]
+fn output_codes_above_5() {
+    for output in 6..=255 {
+        let answer = ask(Regime { output, ..REGIME }, READ);
+        assert_eq!((answer.tag, answer.refusal), (2, 3));
+    }
+}
+
+#[test]
+fn null_where_the_length_is_0() {
+    let null = std::ptr::null_mut();
+    let mut session = session(REGIME);
+    // SAFETY: a null pointer is allowed where the length is 0.
+    unsafe {
+        assert_eq!(vmsa_walk(null, 0, REGIME, READ).refusal, 1);
+        assert_eq!(vmsa_session_set_regime(&mut session, null, 0, REGIME), 1);
+        assert_eq!(vmsa_session_access(&mut session, null, 0, READ).refusal, 1);
+        assert_eq!(vmsa_session_store(&mut session, null, 0, POOL, 0), 1);
+    }
+}
+
+#[test]
+fn fresh_session() {
+    let session = session_empty();
+    assert_eq!(session.set, 0);
+    assert!(session.entries.iter().all(|entry| entry.held == 0));
+}
+
+#[test]
+fn session_keeps_each_regime_field() {
+    let regime = Regime {
+        start: 0x1000,
+        length: 0x2000,
+        address: 0x1234_5678_9000,
+        root0: 0x2345_6789_a000,
+        root1: 0x3456_789a_b000,
+        attributes: 0x8877_6655_4433_2211,
+        tsz0: 17,
+        tsz1: 38,
+        disabled0: 1,
+        disabled1: 0,
+        output: 4,
+        ha: 0,
+        hd: 1,
+        wxn: 0,
+    };
+    assert_eq!(session(regime).regime, regime);
+    let flags = Regime {
+        disabled0: 0,
+        disabled1: 1,
+        ha: 1,
+        hd: 0,
+        wxn: 1,
+        ..regime
+    };
+    assert_eq!(session(flags).regime, flags);
+    assert_ne!(session(flags).set, 0);
+}
+
+#[test]
+fn session_uses_each_regime_field() {
+    // Each field changed alone, where it lies in the session, has the effect
+    // that it has on a plain walk.
+    let upper = Access {
+        address: 0xffff_ff80_0040_3abc,
+        ..READ
+    };
+    let fetch = Access { kind: 3, ..READ };
+    let mut memory = memory();
+    memory.extend_from_within(..);
+    put(&mut memory, 0x10000 + LEAF, CLEAN + 0x1_0000);
+    put(&mut memory, 0x0ff8, 0x4000_1003);
+    put(&mut memory, 0x1010, 0xa000_0641);
+    put(&mut memory, 0x3000, 0xb000_0641);
+    put(&mut memory, 0x4000, 0x4000_5003);
+    put(&mut memory, 0x4ff8, 0x4000_5003);
+    put(&mut memory, 0x5000, 0xc000_0641);
+    let over = |regime, access| {
+        let mut plain = memory.clone();
+        let mut ours = memory.clone();
+        let answer = walk(&mut plain, regime, access);
+        let mut crafted = session(REGIME);
+        crafted.regime = regime;
+        assert_eq!(session_access(&mut crafted, &mut ours, access), answer);
+        assert!(plain == ours);
+        answer
+    };
+    type Change = fn(&mut Regime);
+    let changes: [(Access, Change); 14] = [
+        (READ, |r| r.start = 0x10000),
+        (READ, |r| r.length = 0x3000),
+        (READ, |r| r.address = POOL - 0x1000),
+        (READ, |r| r.root0 = POOL + 0x4000),
+        (upper, |r| r.root1 = POOL + 0x4000),
+        (READ, |r| r.attributes = 0x44),
+        (READ, |r| r.tsz0 = 25),
+        (upper, |r| r.tsz1 = 25),
+        (READ, |r| r.disabled0 = 1),
+        (upper, |r| r.disabled1 = 1),
+        (WRITE, |r| r.output = 0),
+        (READ, |r| r.ha = 0),
+        (WRITE, |r| r.hd = 0),
+        (fetch, |r| r.wxn = 1),
+    ];
+    for (i, (access, change)) in changes.into_iter().enumerate() {
+        let mut regime = REGIME;
+        if i == 10 {
+            // The output size shows on a root that is beyond it.
+            regime.root0 = 0x1_0000_0000;
+        }
+        let before = over(regime, access);
+        change(&mut regime);
+        assert_ne!(before, over(regime, access), "change {i}");
+    }
+}
+
+#[test]
+fn session_keeps_each_entry_field() {
+    let mut memory = memory();
+    let mut session = session(REGIME);
+    let answer = session_access(&mut session, &mut memory, WRITE);
+    assert_eq!((answer.tag, answer.reads), (0, 4));
+    let page = 0x403;
+    for (i, entry) in session.entries.iter().enumerate() {
+        if i == page % ENTRIES {
+            assert_eq!(entry.page, page as u64);
+            assert_eq!(entry.value, (CLEAN | AF) & !AP2);
+            assert_eq!(entry.left, 0);
+            assert_ne!(entry.held, 0);
+        } else {
+            assert_eq!(entry.held, 0);
+        }
+    }
+
+    // A block of level 2 has one level below it, one of level 1 has two.
+    for (offset, left) in [(0x2010, 1), (0x1000, 2)] {
+        put(&mut memory, offset, 0xc000_0641);
+        session_invalidate_all(&mut session);
+        session_access(&mut session, &mut memory, READ);
+        let entry = session.entries[page % ENTRIES];
+        assert_eq!((entry.value, entry.left), (0xc000_0641, left));
+    }
+
+    // A drop empties the entries and leaves the rest.
+    let (regime, set) = (session.regime, session.set);
+    session_invalidate_all(&mut session);
+    assert!(session.entries.iter().all(|entry| entry.held == 0));
+    assert_eq!((session.regime, session.set), (regime, set));
+}
+
+#[test]
+fn session_uses_each_entry_field() {
+    // Every entry holds a page of its own that the tables do not map.
+    let mut session = session(REGIME);
+    for (i, entry) in session.entries.iter_mut().enumerate() {
+        *entry = Entry {
+            page: 0x1_0000 + i as u64,
+            value: 0x0000_7000_0000_0643 + ((i as u64) << 39),
+            left: 0,
+            held: 1 + 3 * i as u8,
+        };
+    }
+    let mut memory = memory();
+    let access = |page: u64| Access {
+        address: page << 12 | 0x678,
+        ..READ
+    };
+    for i in 0..64 {
+        let answer = session_access(&mut session, &mut memory, access(0x1_0000 + i));
+        assert_eq!(answer.output, 0x7000_0000_0678 + (i << 39));
+        assert_eq!((answer.tag, answer.level, answer.reads), (0, 3, 0));
+    }
+
+    // Each field of one of them changed alone.
+    let held = session.entries[5];
+    let mut with = |entry| {
+        session.entries[5] = entry;
+        session_access(&mut session, &mut memory, access(0x1_0005))
+    };
+    let walked = with(Entry { held: 0, ..held });
+    assert_eq!((walked.tag, walked.code, walked.reads), (1, 6, 3));
+    for page in [0x5, 0x1_0045, 0x1_0005 | 1 << 63] {
+        assert_eq!(with(Entry { page, ..held }), walked);
+    }
+    let value = 0xdead_b000_0643;
+    assert_eq!(with(Entry { value, ..held }).output, 0xdead_b000_0678);
+    for left in 0..=255 {
+        let answer = with(Entry { left, ..held });
+        match left {
+            0..=3 => assert_eq!((answer.reads, answer.level), (0, 3 - left)),
+            _ => assert_eq!(answer, walked),
+        }
+    }
+}
+
+#[test]
+fn session_set_byte() {
+    let mut memory = memory();
+    let mut session = session(REGIME);
+    session.set = 0;
+    assert_eq!(
+        session_access(&mut session, &mut memory, READ),
+        Answer {
+            tag: 2,
+            refusal: 9,
+            ..Answer::default()
+        }
+    );
+    assert_eq!(session_store(&mut session, &mut memory, POOL, 0), 9);
+    for set in 1..=255 {
+        session.set = set;
+        let answer = session_access(&mut session, &mut memory, READ);
+        assert_eq!(answer.output, 0x8000_5abc);
+    }
+}
+
+/// xorshift64.
+fn next(state: &mut u64) -> u64 {
+    *state ^= *state << 13;
+    *state ^= *state >> 7;
+    *state ^= *state << 17;
+    *state
+}
+
+#[test]
+fn any_bytes_are_a_session() {
+    // Whatever stands in a session, a call ends, and changes bytes of the pool
+    // alone.
+    let mut state = 0x2545_f491_4f6c_dd1d;
+    let mut around = vec![0; 0x6000];
+    for chunk in around.chunks_exact_mut(8) {
+        chunk.copy_from_slice(&next(&mut state).to_le_bytes());
+    }
+    let mut answers = [0; 3];
+    for _ in 0..10_000 {
+        let mut byte = || next(&mut state) as u8;
+        let mut session = session_empty();
+        session.set = byte();
+        session.regime = Regime {
+            start: 0x1000 * usize::from(byte() % 6),
+            length: 0x1000 * usize::from(byte() % 4),
+            output: byte() % 8,
+            tsz0: byte() % 48,
+            tsz1: byte(),
+            disabled0: byte() & byte() & byte(),
+            disabled1: byte(),
+            ha: byte(),
+            hd: byte(),
+            wxn: byte(),
+            ..REGIME
+        };
+        session.regime.root0 = next(&mut state) & !0xfff;
+        session.regime.root1 = next(&mut state);
+        session.regime.attributes = next(&mut state);
+        if next(&mut state) & 7 == 0 {
+            session.regime.address = next(&mut state);
+            session.regime.start = next(&mut state) as usize;
+        }
+        if next(&mut state) & 3 != 0 {
+            session.regime.root0 = POOL;
+        }
+        for (i, entry) in session.entries.iter_mut().enumerate() {
+            entry.page = i as u64 | next(&mut state) & 0xc0;
+            entry.value = next(&mut state);
+            entry.left = next(&mut state) as u8 & 7;
+            entry.held = next(&mut state) as u8;
+        }
+
+        let mut memory = around.clone();
+        let access = Access {
+            address: next(&mut state) & 0xf_ffff,
+            size: 1,
+            el0: next(&mut state) as u8,
+            kind: next(&mut state) as u8,
+        };
+        let answer = session_access(&mut session, &mut memory, access);
+        answers[usize::from(answer.tag)] += 1;
+        let address = POOL + (next(&mut state) & 0x3fff);
+        session_store(&mut session, &mut memory, address & !7, 0);
+        // A refused pool leaves the whole memory as it was.
+        let start = session.regime.start.min(memory.len());
+        let end = memory
+            .len()
+            .min(start.saturating_add(session.regime.length));
+        assert!(memory[..start] == around[..start]);
+        assert!(memory[end..] == around[end..]);
+    }
+    assert!(answers.iter().all(|&count| count > 100), "{answers:?}");
+}

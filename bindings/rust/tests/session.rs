@@ -1,0 +1,290 @@
+//! Sessions: a script with every call, and long random lists held against the
+//! plain walk.
+
+mod tables;
+
+use tables::{get, memory, put, read, regime, write, ADDRESS, CLEAN, LEAF, POOL};
+use vmsa::{
+    walk, Access, AccessKind, Answer, FaultKind, PhysAddr, Pool, Range, Refusal, Session, Stop,
+    VirtAddr,
+};
+
+const AP2: u64 = 1 << 7;
+const AF: u64 = 1 << 10;
+
+/// The answer with its count of reads put to 0, for comparing.
+fn uncounted(answer: Answer) -> Answer {
+    match answer {
+        Ok(mut found) => {
+            found.reads = 0;
+            Ok(found)
+        }
+        Err(Stop::Fault(mut fault)) => {
+            fault.reads = 0;
+            Err(Stop::Fault(fault))
+        }
+        refused => refused,
+    }
+}
+
+fn reads(answer: Answer) -> u8 {
+    match answer {
+        Ok(found) => found.reads,
+        Err(stop) => stop.fault().unwrap().reads,
+    }
+}
+
+#[test]
+fn script() {
+    let mut memory = memory();
+    let mut session = Session::new();
+    assert_eq!(session, Session::default());
+    let leaf = PhysAddr(POOL + LEAF as u64);
+
+    // No regime yet, and a refused one leaves it so.
+    let no_regime = Refusal::NoRegime;
+    assert_eq!(
+        session.access(&mut memory, &read()),
+        Err(Stop::Refused(no_regime))
+    );
+    assert_eq!(session.store(&mut memory, leaf, 0), Err(no_regime));
+    session.invalidate_all();
+    let bad = regime().range0(Range::new(PhysAddr(POOL), 15));
+    assert_eq!(session.set_regime(&memory, &bad), Err(Refusal::Sizes));
+    assert_eq!(session, Session::new());
+    assert!(memory == tables::memory());
+
+    // A read fills the entry; a write of the writable-clean page walks again.
+    session.set_regime(&memory, &regime()).unwrap();
+    let found = session.access(&mut memory, &read()).unwrap();
+    assert_eq!(
+        (found.reads, found.accessed, found.dirtied),
+        (4, true, false)
+    );
+    let found = session.access(&mut memory, &read()).unwrap();
+    assert_eq!((found.reads, found.accessed), (0, false));
+    let found = session.access(&mut memory, &write()).unwrap();
+    assert_eq!((found.reads, found.dirtied), (4, true));
+    let found = session.access(&mut memory, &write()).unwrap();
+    assert_eq!((found.reads, found.dirtied), (0, false));
+    assert_eq!(get(&memory, LEAF), 0x0008_0000_8000_5743);
+
+    // Permission and Alignment faults are answered from the held leaf.
+    let fetch = Access::fetch(ADDRESS);
+    let fault = session.access(&mut memory, &fetch).unwrap_err();
+    let fault = fault.fault().unwrap();
+    assert_eq!((fault.kind, fault.reads), (FaultKind::Permission, 0));
+
+    // A store alone does not reach the entry; a drop does.
+    session
+        .store(&mut memory, leaf, CLEAN | AF | 0x1_0000)
+        .unwrap();
+    assert_eq!(get(&memory, LEAF), CLEAN | AF | 0x1_0000);
+    let held = session.access(&mut memory, &write()).unwrap();
+    assert_eq!((held.output.0, held.reads), (0x8000_5abc, 0));
+    assert_eq!(get(&memory, LEAF), CLEAN | AF | 0x1_0000);
+    session.invalidate_all();
+    let seen = session.access(&mut memory, &write()).unwrap();
+    assert_eq!((seen.output.0, seen.reads), (0x8001_5abc, 4));
+    assert_eq!(get(&memory, LEAF), (CLEAN | AF | 0x1_0000) & !AP2);
+
+    // A page 64 pages on has the same entry; a probe that may not be held
+    // does not fill it, a read does.
+    put(&mut memory, LEAF + 64 * 8, CLEAN);
+    let far = VirtAddr(ADDRESS.0 + 64 * 4096);
+    let probe = Access::probe_read(far);
+    assert_eq!(reads(session.access(&mut memory, &probe)), 4);
+    assert_eq!(reads(session.access(&mut memory, &read())), 0);
+    assert_eq!(reads(session.access(&mut memory, &Access::read(far, 8))), 4);
+    assert_eq!(reads(session.access(&mut memory, &probe)), 0);
+    assert_eq!(reads(session.access(&mut memory, &read())), 4);
+    assert_eq!(reads(session.access(&mut memory, &probe)), 4);
+
+    // Refused calls change neither memory nor session.
+    let before = (session.clone(), memory.clone());
+    let bad = regime().attribute(3, 0x01);
+    assert_eq!(session.set_regime(&memory, &bad), Err(Refusal::Attributes));
+    for (access, refusal) in [
+        (Access::read(ADDRESS, 5), Refusal::AccessSize),
+        (Access::read(VirtAddr(0xfff), 2), Refusal::PageCrossing),
+    ] {
+        assert_eq!(
+            session.access(&mut memory, &access),
+            Err(Stop::Refused(refusal))
+        );
+    }
+    for address in [POOL - 8, POOL + 4, POOL + 0x10000, 0, u64::MAX - 7] {
+        let answer = session.store(&mut memory, PhysAddr(address), 1);
+        assert_eq!(answer, Err(Refusal::StoreAddress));
+    }
+    let short = &mut memory[..0x8000];
+    assert_eq!(
+        session.access(short, &read()),
+        Err(Stop::Refused(Refusal::MemoryPool))
+    );
+    assert_eq!(session.store(short, leaf, 0), Err(Refusal::MemoryPool));
+    assert!((session.clone(), memory.clone()) == before);
+
+    // The last descriptor of the pool may be stored; a new regime empties.
+    let last = PhysAddr(POOL + 65_528);
+    session.store(&mut memory, last, u64::MAX).unwrap();
+    assert_eq!(get(&memory, 65_528), u64::MAX);
+    assert_eq!(reads(session.access(&mut memory, &read())), 4);
+    assert_eq!(reads(session.access(&mut memory, &read())), 0);
+    session.set_regime(&memory, &regime()).unwrap();
+    assert_eq!(reads(session.access(&mut memory, &read())), 4);
+    assert_eq!(format!("{session:?}"), "Session { set: true, held: 1, .. }");
+}
+
+#[test]
+fn every_entry() {
+    // 64 pages side by side fill 64 entries; each stays until it is dropped.
+    let mut memory = memory();
+    for page in 0..64 {
+        put(
+            &mut memory,
+            0x3000 + 8 * page,
+            CLEAN + ((page as u64) << 12),
+        );
+    }
+    let mut session = Session::new();
+    session.set_regime(&memory, &regime()).unwrap();
+    let access = |page: u64| Access::write(VirtAddr(0x40_0008 + (page << 12)), 8).el0();
+    for (expected, dirtied) in [(4, true), (0, false)] {
+        for page in 0..64 {
+            let found = session.access(&mut memory, &access(page)).unwrap();
+            assert_eq!(found.output.0, 0x8000_5008 + (page << 12));
+            assert_eq!((found.reads, found.dirtied), (expected, dirtied));
+        }
+    }
+    session.invalidate_all();
+    for page in 0..64 {
+        let found = session.access(&mut memory, &access(page)).unwrap();
+        assert_eq!(found.reads, 4);
+    }
+}
+
+/// xorshift64.
+struct Random(u64);
+
+impl Random {
+    fn next(&mut self) -> u64 {
+        self.0 ^= self.0 << 13;
+        self.0 ^= self.0 >> 7;
+        self.0 ^= self.0 << 17;
+        self.0
+    }
+
+    fn below(&mut self, limit: u64) -> u64 {
+        (self.next() >> 16) % limit
+    }
+
+    /// A descriptor that often leads somewhere: a table in the pool (a page
+    /// at level 3), or a block, with any permissions.
+    fn descriptor(&mut self) -> u64 {
+        let leaf = self.next() & 0x0068_0000_0000_0ffc;
+        match self.below(32) {
+            0 => self.next(),
+            1 => 0,
+            2..=20 => (POOL + 0x1000 * self.below(17)) | leaf | 3,
+            _ => 0x8000_0000 | self.below(0x10000) << 12 | leaf | 1,
+        }
+    }
+}
+
+#[test]
+fn as_the_plain_walk() {
+    let mut random = Random(0x9e37_79b9_7f4a_7c15);
+    let (mut held, mut dirtied, mut faults) = (0, 0, 0);
+    for list in 0..300 {
+        // The pool has a page before it and one behind it.
+        let mut memory = vec![0; 0x12000];
+        for slot in 0..32 {
+            for page in 0..18 {
+                put(&mut memory, 0x1000 * page + 8 * slot, random.descriptor());
+            }
+        }
+        let mut session = Session::new();
+        let mut last = None;
+        for _ in 0..200 {
+            let before = memory.clone();
+            match random.below(24) {
+                0 => {
+                    let tsz = [16, 20, 25, 34, 36, 39, 15][random.below(7) as usize];
+                    let range = Range::new(PhysAddr(POOL + 0x1000 * random.below(16)), tsz);
+                    let next = regime()
+                        .pool(Pool::new(0x1000, 0x10000, PhysAddr(POOL)))
+                        .range0(range)
+                        .range1(range)
+                        .ha(random.below(4) != 0)
+                        .hd(random.below(4) != 0)
+                        .wxn(random.below(4) == 0)
+                        .attribute(random.below(8) as usize, 0x04);
+                    if session.set_regime(&memory, &next).is_ok() {
+                        last = Some(next);
+                    }
+                    assert!(memory == before);
+                }
+                1 => {
+                    let offset = 0x1000 * random.below(17) + 8 * random.below(32);
+                    let value = random.descriptor();
+                    let answer = session.store(&mut memory, PhysAddr(POOL + offset), value);
+                    let mut expected = before;
+                    if answer.is_ok() {
+                        put(&mut expected, 0x1000 + offset as usize, value);
+                        session.invalidate_all();
+                    }
+                    assert!(memory == expected);
+                }
+                _ => {
+                    // Indexes 0 to 2 at each level, mostly inside the range.
+                    let mut low = random.below(4096);
+                    for shift in [12, 21, 30, 39] {
+                        low |= random.below(3) << shift;
+                    }
+                    let bits = match last {
+                        Some(regime) if random.below(8) != 0 => 64 - regime.range0.tsz,
+                        _ => 48,
+                    };
+                    let mask = (1 << bits) - 1;
+                    let top = [0, 0, 0, !mask][random.below(4) as usize];
+                    let kind = AccessKind::ALL[random.below(6) as usize];
+                    let size = match kind {
+                        AccessKind::Fetch => 4,
+                        AccessKind::ProbeRead | AccessKind::ProbeWrite => 1,
+                        _ => 1 << random.below(5),
+                    };
+                    let address =
+                        VirtAddr((low & mask | top) & !(size - 1) | (random.below(16) / 15));
+                    let mut access = Access::new(kind, address, size);
+                    if random.below(2) == 0 {
+                        access = access.el0();
+                    }
+
+                    let answer = session.access(&mut memory, &access);
+                    let Some(regime) = last else {
+                        assert_eq!(answer, Err(Stop::Refused(Refusal::NoRegime)));
+                        assert!(memory == before);
+                        continue;
+                    };
+                    let mut walked = before;
+                    let plain = walk(&mut walked, &regime, &access);
+                    assert_eq!(uncounted(answer), uncounted(plain), "list {list}");
+                    assert!(memory == walked, "list {list}");
+                    match answer {
+                        Ok(found) => {
+                            held += u32::from(found.reads == 0);
+                            dirtied += u32::from(found.dirtied);
+                        }
+                        Err(_) => faults += 1,
+                    }
+                }
+            }
+        }
+    }
+    // The lists are worth something.
+    assert!(
+        held > 1000 && dirtied > 100 && faults > 1000,
+        "{held} held, {dirtied} dirtied, {faults} faults"
+    );
+}

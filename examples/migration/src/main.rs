@@ -1,0 +1,190 @@
+//! A device writes guest pages through a session, and migration copies the
+//! pages that are marked dirty. Every line of the report is asserted.
+//!
+//! The library is found as the crate `vmsa` says: in the folder `VMSA_LIB`.
+
+mod device;
+mod host;
+mod migration;
+
+use std::error::Error;
+
+use device::Device;
+use host::{Host, GUEST, LAST_PAGE, NEIGHBOUR, PAGES, PAST_THE_POOL, READ_ONLY, UNMAPPED};
+use migration::Migration;
+use vmsa::{Access, FaultKind, PhysAddr, Range, Session, VirtAddr};
+
+fn main() -> Result<(), Box<dyn Error>> {
+    let mut host = Host::new()?;
+    let mut device = Device::default();
+    let mut migration = Migration::start(&host);
+    println!(
+        "guest: tables at offsets {} to {}; neighbour: at {} to {}",
+        GUEST.start,
+        GUEST.start + GUEST.length - 1,
+        NEIGHBOUR.start,
+        NEIGHBOUR.start + NEIGHBOUR.length - 1,
+    );
+
+    rounds(&mut host, &mut device, &mut migration)?;
+    faults(&mut host, &mut device, &mut migration)?;
+    without_the_drop(&mut host.clone(), &mut migration.clone())?;
+    end_of_the_pool(&mut host, &mut device, &mut migration)?;
+    neighbour(&mut host)?;
+
+    println!(
+        "ok: no written page lost, no other copied, nothing of the neighbour touched by the guest"
+    );
+    Ok(())
+}
+
+/// Rounds of writes and copies; the last has no writes.
+fn rounds(
+    host: &mut Host,
+    device: &mut Device,
+    migration: &mut Migration,
+) -> Result<(), Box<dyn Error>> {
+    let mut state: u64 = 1;
+    for (round, writes) in [50, 20, 5, 0].into_iter().enumerate() {
+        let walks = device.walks;
+        let answered = device.answered;
+        for _ in 0..writes {
+            // Somewhere in the first pages, often across a boundary.
+            state = state
+                .wrapping_mul(6_364_136_223_846_793_005)
+                .wrapping_add(1);
+            let address = host::page(0).0 + (state >> 33) % (10 << 12);
+            let length = (state >> 20) as usize % 200;
+            let bytes: Vec<u8> = (0..length).map(|i| (state >> (i % 56)) as u8).collect();
+            device.write(host, VirtAddr(address), &bytes)?;
+
+            // A read sets the Access flag alone, and so is not copied.
+            device.read(host, host::page(11))?;
+        }
+        let marked = migration.dirty(host);
+        assert_eq!(marked, device.take_written(), "marked is what was written");
+        let copied = migration.round(host)?;
+        assert_eq!(copied, marked.len());
+        assert!(migration.copy() == host.ram, "no written page is lost");
+        assert!(
+            migration.dirty(host).is_empty(),
+            "every leaf is clean again"
+        );
+        println!(
+            "round {}: {writes} writes, {} accesses ({} walked), {copied} pages marked and copied",
+            round + 1,
+            device.answered - answered,
+            device.walks - walks,
+        );
+    }
+    Ok(())
+}
+
+/// Writes that the guest's tables do not let through mark nothing.
+fn faults(
+    host: &mut Host,
+    device: &mut Device,
+    migration: &mut Migration,
+) -> Result<(), Box<dyn Error>> {
+    for (name, page, kind) in [
+        ("read-only", READ_ONLY, FaultKind::Permission),
+        ("unmapped", UNMAPPED, FaultKind::Translation),
+    ] {
+        let before = host.clone();
+        let stop = device
+            .write(host, host::page(page), b"lost?")
+            .expect_err("the write faults");
+        assert_eq!(stop.fault().map(|fault| fault.kind), Some(kind));
+        assert!(host.tables == before.tables && host.ram == before.ram);
+        println!("write to the {name} page: {stop}; nothing marked");
+    }
+    assert_eq!(migration.round(host)?, 0);
+    Ok(())
+}
+
+/// Why a store needs the drop: the entry of a page that is already dirty
+/// answers the next write, and no mark is made. Over a copy of the host.
+fn without_the_drop(host: &mut Host, migration: &mut Migration) -> Result<(), Box<dyn Error>> {
+    let mut device = Device::default();
+    device.write(host, host::page(0), b"first")?;
+    let dirty = migration.dirty(host);
+    migration.rearm(host)?;
+    migration.copy_pages(host, &dirty);
+    assert!(migration.copy() == host.ram);
+
+    device.write(host, host::page(0), b"second")?;
+    assert!(migration.dirty(host).is_empty());
+    assert!(migration.copy() != host.ram);
+    println!("re-armed without the drop: the next write is not marked, its page would be lost");
+
+    // With the drop, it is.
+    host.session.invalidate_all();
+    device.write(host, host::page(0), b"third")?;
+    assert_eq!(migration.round(host)?, 1);
+    assert!(migration.copy() == host.ram);
+    Ok(())
+}
+
+/// One write that runs from the page of the pool's last descriptor into the
+/// next page, whose descriptor would be the neighbour's first.
+fn end_of_the_pool(
+    host: &mut Host,
+    device: &mut Device,
+    migration: &mut Migration,
+) -> Result<(), Box<dyn Error>> {
+    let neighbour = host.tables[NEIGHBOUR.start..].to_vec();
+    let last = NEIGHBOUR.start - 8;
+    assert_eq!(last, 65_528);
+    assert!(migration::is_clean(host.descriptor(last)));
+    assert!(migration::is_clean(host.descriptor(NEIGHBOUR.start)));
+
+    let start = VirtAddr(PAST_THE_POOL.0 - 16);
+    let stop = device
+        .write(host, start, &[0xa5; 32])
+        .expect_err("the second page is beyond the pool");
+    let fault = stop.fault().ok_or("not a fault")?;
+    assert_eq!((fault.kind, fault.level), (FaultKind::ExternalAbort, 3));
+    assert_eq!((fault.code, fault.reads), (23, 4));
+    assert!(host.tables[NEIGHBOUR.start..] == neighbour);
+
+    // The first 16 bytes were written, and their page is marked.
+    assert!(migration::is_dirty(host.descriptor(last)));
+    assert_eq!(migration.dirty(host), device.take_written());
+    assert_eq!(migration.dirty(host).len(), 1);
+    println!("offset {last}: written and marked, page {LAST_PAGE} copied");
+    assert_eq!(migration.round(host)?, 1);
+    assert!(migration.copy() == host.ram);
+    assert_eq!(host.ram[(PAGES << 12) - 16..], [0xa5; 16]);
+
+    // A plain walk gives the same abort.
+    let write = Access::write(PAST_THE_POOL, 8);
+    let plain = vmsa::walk(&mut host.tables, &host::regime(), &write);
+    assert_eq!(plain, Err(stop));
+    assert!(host.tables[NEIGHBOUR.start..] == neighbour);
+    println!(
+        "offset {}: {fault}; the neighbour's {} bytes are unchanged",
+        NEIGHBOUR.start,
+        neighbour.len(),
+    );
+    Ok(())
+}
+
+/// The neighbour's own walk does reach that descriptor, and marks it.
+fn neighbour(host: &mut Host) -> Result<(), Box<dyn Error>> {
+    let guest = host.tables[..NEIGHBOUR.start].to_vec();
+    let regime = host::regime()
+        .pool(NEIGHBOUR)
+        .range0(Range::new(host::NEIGHBOUR_ROOT, 16));
+    let mut session = Session::new();
+    session.set_regime(&host.tables, &regime)?;
+    let found = session.access(&mut host.tables, &Access::write(VirtAddr(0x10), 8))?;
+    assert_eq!(found.output, PhysAddr(host::NEIGHBOUR_RAM.0 + 0x10));
+    assert!(found.dirtied);
+    assert!(migration::is_dirty(host.descriptor(NEIGHBOUR.start)));
+    assert!(host.tables[..NEIGHBOUR.start] == guest);
+    println!(
+        "offset {}: marked by the neighbour's own write; the guest's bytes are unchanged",
+        NEIGHBOUR.start
+    );
+    Ok(())
+}
