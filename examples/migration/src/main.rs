@@ -138,29 +138,26 @@ fn end_of_the_pool(
     assert!(migration::is_clean(host.descriptor(last)));
     assert!(migration::is_clean(host.descriptor(NEIGHBOUR.start)));
 
-    let start = VirtAddr(PAST_THE_POOL.0 - 16);
-    let stop = device
-        .write(host, start, &[0xa5; 32])
-        .expect_err("the second page is beyond the pool");
+    // A plain walk of the next page.
+    let write = Access::write(PAST_THE_POOL, 16);
+    let plain = vmsa::walk(&mut host.tables, &host::regime(), &write);
+    assert!(host.tables[NEIGHBOUR.start..] == neighbour);
+    let stop = plain.expect_err("its table is past the pool");
     let fault = stop.fault().ok_or("not a fault")?;
     assert_eq!((fault.kind, fault.level), (FaultKind::ExternalAbort, 3));
     assert_eq!((fault.code, fault.reads), (23, 4));
-    assert!(host.tables[NEIGHBOUR.start..] == neighbour);
 
-    // The first 16 bytes were written, and their page is marked.
+    // The device writes 32 bytes: the first 16 arrive, and their page is
+    // marked; the rest gets the same abort.
+    let start = VirtAddr(PAST_THE_POOL.0 - 16);
+    assert_eq!(device.write(host, start, &[0xa5; 32]), Err(stop));
+    assert!(host.tables[NEIGHBOUR.start..] == neighbour);
+    assert_eq!(host.ram[(PAGES << 12) - 16..], [0xa5; 16]);
     assert!(migration::is_dirty(host.descriptor(last)));
     assert_eq!(migration.dirty(host), device.take_written());
-    assert_eq!(migration.dirty(host).len(), 1);
-    println!("offset {last}: written and marked, page {LAST_PAGE} copied");
     assert_eq!(migration.round(host)?, 1);
     assert!(migration.copy() == host.ram);
-    assert_eq!(host.ram[(PAGES << 12) - 16..], [0xa5; 16]);
-
-    // A plain walk gives the same abort.
-    let write = Access::write(PAST_THE_POOL, 8);
-    let plain = vmsa::walk(&mut host.tables, &host::regime(), &write);
-    assert_eq!(plain, Err(stop));
-    assert!(host.tables[NEIGHBOUR.start..] == neighbour);
+    println!("offset {last}: written and marked, page {LAST_PAGE} copied");
     println!(
         "offset {}: {fault}; the neighbour's {} bytes are unchanged",
         NEIGHBOUR.start,
