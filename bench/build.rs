@@ -1,0 +1,25 @@
+//! Links `libcapi.a` into the binary. It is looked for in the folder named
+//! by `VMSA_LIB` (taken from this package's folder if relative), or else in
+//! `../target/staticlib`.
+//!
+//! It comes last, behind the standard library, because a static library made
+//! by rustc may bring a runtime of its own; where both define a symbol, such
+//! as the panic handler, the first one, ours, is to be taken.
+
+use std::env;
+use std::path::Path;
+
+fn main() {
+    let package = env::var("CARGO_MANIFEST_DIR").expect("cargo names the package's folder");
+    let folder = env::var("VMSA_LIB").unwrap_or_else(|_| "../target/staticlib".to_string());
+    let archive = Path::new(&package).join(folder).join("libcapi.a");
+
+    println!("cargo:rustc-link-arg-bins={}", archive.display());
+    if env::var("CARGO_CFG_TARGET_OS").is_ok_and(|system| system == "linux") {
+        println!("cargo:rustc-link-arg-bins=-Wl,--allow-multiple-definition");
+    }
+
+    println!("cargo:rerun-if-changed={}", archive.display());
+    println!("cargo:rerun-if-env-changed=VMSA_LIB");
+    println!("cargo:rerun-if-changed=build.rs");
+}

@@ -1,0 +1,235 @@
+//! What is measured: one call again and again, on either side.
+
+use std::hint::black_box;
+
+use crate::boundary::{self, Access, Answer, Regime, READ};
+use crate::plain;
+
+#[derive(Clone, Copy, PartialEq)]
+pub enum Kernel {
+    Walk4,
+    Block2,
+    Hit,
+    Miss,
+    SetRegime,
+    InvalidateAll,
+}
+
+#[derive(Clone, Copy)]
+pub enum Side {
+    Ours,
+    Plain,
+    /// The loop around the calls, and no call.
+    Loop,
+}
+
+impl Kernel {
+    pub const ALL: [Kernel; 6] = [
+        Kernel::Walk4,
+        Kernel::Block2,
+        Kernel::Hit,
+        Kernel::Miss,
+        Kernel::SetRegime,
+        Kernel::InvalidateAll,
+    ];
+
+    pub fn name(self) -> &'static str {
+        match self {
+            Kernel::Walk4 => "walk4",
+            Kernel::Block2 => "block2",
+            Kernel::Hit => "hit",
+            Kernel::Miss => "miss",
+            Kernel::SetRegime => "set-regime",
+            Kernel::InvalidateAll => "invalidate-all",
+        }
+    }
+
+    pub fn named(name: &str) -> Option<Kernel> {
+        Kernel::ALL.into_iter().find(|kernel| kernel.name() == name)
+    }
+
+    /// The access of call `i`.
+    #[inline(always)]
+    fn access(self, i: u64) -> Access {
+        let address = match self {
+            // 512 pages in a scattered order.
+            Kernel::Walk4 => 0x40_0abc + ((i * 37 % 512) << 12),
+            // 512 blocks of 2 MiB.
+            Kernel::Block2 => 0x4000_0abc + ((i * 37 % 512) << 21),
+            // 64 pages, one for each entry.
+            Kernel::Hit => 0x40_0abc + ((i * 37 % 64) << 12),
+            // Two pages of one entry.
+            _ => 0x40_0abc + ((i % 2 * 64) << 12),
+        };
+        Access {
+            address,
+            size: 4,
+            el0: 1,
+            kind: READ,
+        }
+    }
+}
+
+impl Side {
+    pub fn named(name: &str) -> Option<Side> {
+        match name {
+            "ours" => Some(Side::Ours),
+            "plain" => Some(Side::Plain),
+            "loop" => Some(Side::Loop),
+            _ => None,
+        }
+    }
+}
+
+/// The regime of the measured calls.
+pub fn regime() -> Regime {
+    Regime {
+        start: 0,
+        length: 0x1_0000,
+        address: 0x4000_0000,
+        root0: 0x4000_0000,
+        root1: 0x4000_0000,
+        attributes: u64::MAX,
+        tsz0: 16,
+        tsz1: 16,
+        disabled0: 0,
+        disabled1: 0,
+        output: 5,
+        ha: 1,
+        hd: 1,
+        wxn: 0,
+    }
+}
+
+/// Tables of 512 pages from 0x400000 and of 512 blocks from 0x40000000, every
+/// leaf accessed and dirty.
+pub fn memory() -> Vec<u8> {
+    let mut memory = vec![0; 0x1_0000];
+    let mut put = |offset: usize, value: u64| {
+        memory[offset..offset + 8].copy_from_slice(&value.to_le_bytes());
+    };
+    put(0x0000, 0x4000_1003);
+    put(0x1000, 0x4000_2003);
+    put(0x1008, 0x4000_4003);
+    put(0x2010, 0x4000_3003);
+    for i in 0..512 {
+        let at = 8 * i as usize;
+        put(0x3000 + at, 0x0008_0000_8000_0743 | i << 12);
+        put(0x4000 + at, 0x0008_0001_0000_0741 | i << 21);
+    }
+    memory
+}
+
+/// A memory and a session for each side.
+pub struct Bed {
+    regime: Regime,
+    memory: [Vec<u8>; 2],
+    ours: boundary::Session,
+    plain: plain::Session,
+}
+
+impl Bed {
+    /// Ready for the calls of `kernel`, its 64 pages remembered for a hit.
+    pub fn new(kernel: Kernel) -> Bed {
+        let mut bed = Bed {
+            regime: regime(),
+            memory: [memory(), memory()],
+            ours: boundary::Session::empty(),
+            plain: plain::Session::empty(),
+        };
+        let refusals = [
+            bed.ours.set_regime(&bed.memory[0], &bed.regime),
+            bed.plain.set_regime(&bed.memory[1], &bed.regime),
+        ];
+        assert_eq!(refusals, [0, 0]);
+        if kernel == Kernel::Hit {
+            bed.run(kernel, Side::Ours, 64);
+            bed.run(kernel, Side::Plain, 64);
+        }
+        bed
+    }
+
+    pub fn same_memory(&self) -> bool {
+        self.memory[0] == self.memory[1]
+    }
+
+    /// Runs `calls` calls and gives a checksum of the answers.
+    pub fn run(&mut self, kernel: Kernel, side: Side, calls: u64) -> u64 {
+        let Bed {
+            regime,
+            memory: [memory, plain_memory],
+            ours,
+            plain,
+        } = self;
+        let regime = &*regime;
+        match (kernel, side) {
+            (Kernel::Walk4, Side::Ours) => answers(Kernel::Walk4, calls, |access| {
+                boundary::walk(memory, black_box(regime), access)
+            }),
+            (Kernel::Walk4, Side::Plain) => answers(Kernel::Walk4, calls, |access| {
+                plain::walk(plain_memory, black_box(regime), access)
+            }),
+            (Kernel::Block2, Side::Ours) => answers(Kernel::Block2, calls, |access| {
+                boundary::walk(memory, black_box(regime), access)
+            }),
+            (Kernel::Block2, Side::Plain) => answers(Kernel::Block2, calls, |access| {
+                plain::walk(plain_memory, black_box(regime), access)
+            }),
+            (Kernel::Hit, Side::Ours) => answers(Kernel::Hit, calls, |access| {
+                black_box(&mut *ours).access(memory, access)
+            }),
+            (Kernel::Hit, Side::Plain) => answers(Kernel::Hit, calls, |access| {
+                black_box(&mut *plain).access(plain_memory, access)
+            }),
+            (Kernel::Miss, Side::Ours) => answers(Kernel::Miss, calls, |access| {
+                black_box(&mut *ours).access(memory, access)
+            }),
+            (Kernel::Miss, Side::Plain) => answers(Kernel::Miss, calls, |access| {
+                black_box(&mut *plain).access(plain_memory, access)
+            }),
+            (Kernel::SetRegime, Side::Ours) => codes(calls, || {
+                black_box(&mut *ours).set_regime(memory, black_box(regime))
+            }),
+            (Kernel::SetRegime, Side::Plain) => codes(calls, || {
+                black_box(&mut *plain).set_regime(plain_memory, black_box(regime))
+            }),
+            (Kernel::InvalidateAll, Side::Ours) => codes(calls, || {
+                black_box(&mut *ours).invalidate_all();
+                0
+            }),
+            (Kernel::InvalidateAll, Side::Plain) => codes(calls, || {
+                black_box(&mut *plain).invalidate_all();
+                0
+            }),
+            (Kernel::SetRegime | Kernel::InvalidateAll, Side::Loop) => {
+                codes(calls, || black_box(0))
+            }
+            (_, Side::Loop) => {
+                let answer = Answer::default();
+                answers(Kernel::Walk4, calls, |_| *black_box(&answer))
+            }
+        }
+    }
+}
+
+/// The checksum takes in the output, the tag and the reads of each answer;
+/// the other fields are compared in `check`, where no time is taken.
+#[inline(always)]
+fn answers(kernel: Kernel, calls: u64, mut call: impl FnMut(&Access) -> Answer) -> u64 {
+    let mut sum = 0u64;
+    for i in 0..calls {
+        let answer = call(black_box(&kernel.access(i)));
+        let rest = u64::from(answer.tag) << 8 | u64::from(answer.reads);
+        sum = sum.rotate_left(5) ^ answer.output ^ rest << 48;
+    }
+    sum
+}
+
+#[inline(always)]
+fn codes(calls: u64, mut call: impl FnMut() -> u8) -> u64 {
+    let mut sum = 0u64;
+    for _ in 0..calls {
+        sum = sum.rotate_left(5) ^ u64::from(call());
+    }
+    sum
+}

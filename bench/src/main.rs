@@ -1,0 +1,92 @@
+//! The library's speed as a ratio to a plain Rust version of the same rules,
+//! both measured in one run.
+//!
+//! `bench [CALLS]` checks that both give the same answers and prints one line
+//! for each kernel. `bench count KERNEL SIDE CALLS` runs one kernel alone, for
+//! a tool that counts instructions; `bench kernels` lists the kernels.
+
+mod boundary;
+mod check;
+mod kernels;
+mod plain;
+
+use std::env;
+use std::hint::black_box;
+use std::process::ExitCode;
+use std::time::Instant;
+
+use kernels::{Bed, Kernel, Side};
+
+const CALLS: u64 = 10_000_000;
+const ROUNDS: u64 = 7;
+
+fn main() -> ExitCode {
+    let arguments: Vec<String> = env::args().skip(1).collect();
+    let arguments: Vec<&str> = arguments.iter().map(String::as_str).collect();
+    match arguments[..] {
+        [] => measure(CALLS),
+        ["kernels"] => {
+            for kernel in Kernel::ALL {
+                println!("{}", kernel.name());
+            }
+        }
+        ["count", kernel, side, calls] => {
+            let (Some(kernel), Some(side), Ok(calls)) =
+                (Kernel::named(kernel), Side::named(side), calls.parse())
+            else {
+                return usage();
+            };
+            black_box(Bed::new(kernel).run(kernel, side, calls));
+        }
+        [calls] => match calls.parse() {
+            Ok(calls) if calls >= ROUNDS => measure(calls),
+            _ => return usage(),
+        },
+        _ => return usage(),
+    }
+    ExitCode::SUCCESS
+}
+
+fn usage() -> ExitCode {
+    eprintln!("bench [CALLS, at least {ROUNDS}]");
+    eprintln!("bench kernels");
+    eprintln!("bench count KERNEL ours|plain|loop CALLS");
+    ExitCode::FAILURE
+}
+
+fn measure(calls: u64) {
+    let compared = check::same_answers();
+    println!("{compared} random calls: all answers and all bytes the same on both sides");
+
+    let calls = calls / ROUNDS;
+    println!(
+        "{ROUNDS} rounds of {calls} calls for each side in turn; median; \
+         call against call (no plain function is inlined)"
+    );
+    for kernel in Kernel::ALL {
+        let mut bed = Bed::new(kernel);
+        let mut times = [Vec::new(), Vec::new()];
+        for round in 0..ROUNDS {
+            let mut sums = [0; 2];
+            let first = round as usize % 2;
+            for side in [first, 1 - first] {
+                let start = Instant::now();
+                sums[side] = bed.run(kernel, [Side::Ours, Side::Plain][side], calls);
+                times[side].push(start.elapsed().as_secs_f64() / calls as f64 * 1e9);
+            }
+            assert_eq!(sums[0], sums[1], "{}: other answers", kernel.name());
+        }
+        assert!(bed.same_memory(), "{}: other bytes", kernel.name());
+        let [ours, plain] = times.map(median);
+        println!(
+            "{:<15} ours {ours:7.1} ns  plain {plain:7.1} ns  ratio {:6.2}",
+            kernel.name(),
+            ours / plain,
+        );
+    }
+}
+
+fn median(mut times: Vec<f64>) -> f64 {
+    times.sort_by(f64::total_cmp);
+    times[times.len() / 2]
+}

@@ -1,0 +1,332 @@
+//! The same rules in plain Rust, with no thought of a proof: a loop over the
+//! levels, and a session changed where it lies.
+
+use crate::boundary::{Access, Answer, Regime};
+use crate::boundary::{FAULT, FETCH, PROBE_READ, READ, REFUSED, SUCCESS, UPDATE, WRITE};
+
+const MEMORY_LIMIT: usize = 1 << 20;
+const POOL_LIMIT: usize = 1 << 16;
+const OUTPUT_LIMITS: [u64; 6] = [1 << 32, 1 << 36, 1 << 40, 1 << 42, 1 << 44, 1 << 48];
+
+const ADDRESS_SIZE: u16 = 0;
+const TRANSLATION: u16 = 4;
+const ACCESS_FLAG: u16 = 8;
+const PERMISSION: u16 = 12;
+const EXTERNAL_ABORT: u16 = 20;
+const ALIGNMENT: u16 = 33;
+
+const AP1: u64 = 1 << 6;
+const AP2: u64 = 1 << 7;
+const AF: u64 = 1 << 10;
+const NG: u64 = 1 << 11;
+const DBM: u64 = 1 << 51;
+const PXN: u64 = 1 << 53;
+const UXN: u64 = 1 << 54;
+
+/// A leaf descriptor, and the levels below it.
+#[derive(Clone, Copy)]
+struct Leaf {
+    value: u64,
+    left: u8,
+}
+
+/// Where a walk ended: the leaf, its offset in the pool, and the reads.
+struct Found {
+    leaf: Leaf,
+    offset: usize,
+    reads: u8,
+}
+
+fn refused(refusal: u8) -> Answer {
+    Answer {
+        tag: REFUSED,
+        refusal,
+        ..Answer::default()
+    }
+}
+
+fn fault(code: u16, level: u8, reads: u8) -> Answer {
+    Answer {
+        tag: FAULT,
+        code,
+        level,
+        reads,
+        ..Answer::default()
+    }
+}
+
+fn pool_fits(length: usize, regime: &Regime) -> bool {
+    length <= MEMORY_LIMIT
+        && regime.start.is_multiple_of(4096)
+        && regime.length.is_multiple_of(4096)
+        && regime.length != 0
+        && regime.length <= POOL_LIMIT
+        && regime.start <= length
+        && regime.length <= length - regime.start
+}
+
+fn attribute_known(byte: u8) -> bool {
+    matches!(byte, 0x00 | 0x04 | 0x08 | 0x0c) || (byte & 0x0f != 0 && byte & 0xf0 != 0)
+}
+
+fn refuse_regime(length: usize, regime: &Regime) -> Option<u8> {
+    let root_known = |root: u64| root.is_multiple_of(4096) && root < 1 << 48;
+    if !pool_fits(length, regime) {
+        Some(1)
+    } else if !regime.address.is_multiple_of(4096)
+        || regime.address > (1 << 48) - regime.length as u64
+    {
+        Some(2)
+    } else if !(16..=39).contains(&regime.tsz0)
+        || !(16..=39).contains(&regime.tsz1)
+        || regime.output > 5
+    {
+        Some(3)
+    } else if !root_known(regime.root0) || !root_known(regime.root1) {
+        Some(4)
+    } else if !regime
+        .attributes
+        .to_le_bytes()
+        .into_iter()
+        .all(attribute_known)
+    {
+        Some(5)
+    } else {
+        None
+    }
+}
+
+fn refuse_access(access: &Access) -> Option<u8> {
+    let size_known = match access.kind {
+        READ | WRITE | UPDATE => matches!(access.size, 1 | 2 | 4 | 8 | 16),
+        FETCH => access.size == 4 && access.address.is_multiple_of(4),
+        _ => access.size == 1,
+    };
+    if !size_known {
+        Some(6)
+    } else if access.address >> 12 != access.address.wrapping_add(access.size - 1) >> 12 {
+        Some(7)
+    } else {
+        None
+    }
+}
+
+/// Steps 1 to 5: from the root to the leaf.
+fn find(pool: &[u8], regime: &Regime, address: u64) -> Result<Found, Answer> {
+    let high = address >> 55 & 1 == 1;
+    let (root, tsz, disabled, top) = if high {
+        (regime.root1, regime.tsz1, regime.disabled1, u64::MAX)
+    } else {
+        (regime.root0, regime.tsz0, regime.disabled0, 0)
+    };
+    let bits = 64 - tsz;
+    if disabled != 0 || address >> bits != top >> bits {
+        return Err(fault(TRANSLATION, 0, 0));
+    }
+    let limit = OUTPUT_LIMITS[regime.output as usize];
+    if root >= limit {
+        return Err(fault(ADDRESS_SIZE, 0, 0));
+    }
+
+    let input = address & ((1 << bits) - 1);
+    let mut table = root;
+    let mut left = (51 - tsz) / 9;
+    let mut reads = 0;
+    loop {
+        let level = 3 - left;
+        let stop = |code: u16, reads: u8| Err(fault(code + u16::from(level), level, reads));
+        let shift = 12 + 9 * left;
+        let at = table + 8 * (input >> shift & 511);
+        reads += 1;
+
+        // Both are multiples of 8: a descriptor that starts in the pool ends
+        // in it too.
+        let offset = at.wrapping_sub(regime.address);
+        if offset >= regime.length as u64 {
+            return stop(EXTERNAL_ABORT, reads);
+        }
+        let offset = offset as usize;
+        let bytes = pool[offset..offset + 8].try_into().expect("8 bytes");
+        let value = u64::from_le_bytes(bytes);
+
+        let wide = value & 2 != 0;
+        if value & 1 == 0 || (!wide && (left == 0 || left == 3)) {
+            return stop(TRANSLATION, reads);
+        }
+        if wide && left > 0 {
+            table = value & 0xffff_ffff_f000;
+            if table >= limit {
+                return stop(ADDRESS_SIZE, reads);
+            }
+            left -= 1;
+            continue;
+        }
+        let leaf = Leaf { value, left };
+        if leaf.base() >= limit {
+            return stop(ADDRESS_SIZE, reads);
+        }
+        return Ok(Found {
+            leaf,
+            offset,
+            reads,
+        });
+    }
+}
+
+impl Leaf {
+    fn base(self) -> u64 {
+        let shift = 12 + 9 * self.left;
+        (self.value & 0xffff_ffff_ffff) >> shift << shift
+    }
+
+    /// Steps 6 to 8 and the answer, which says what marks are due.
+    fn judge(self, regime: &Regime, access: &Access, reads: u8) -> Answer {
+        let level = 3 - self.left;
+        let is = |bit: u64| self.value & bit != 0;
+        let ha = regime.ha != 0;
+        if !is(AF) && !ha {
+            return fault(ACCESS_FLAG + u16::from(level), level, reads);
+        }
+        let attribute = (regime.attributes >> (8 * (self.value >> 2 & 7))) as u8;
+        let device = attribute < 0x10;
+        let fault = |code: u16| Answer {
+            cacheable: u8::from(is(AF)),
+            ..fault(code, level, reads)
+        };
+
+        let plain = matches!(access.kind, READ | WRITE | UPDATE);
+        if plain && device && access.address & (access.size - 1) != 0 {
+            return fault(ALIGNMENT);
+        }
+
+        let el0 = access.el0 != 0;
+        let wxn = regime.wxn != 0;
+        let writable = !is(AP2) || (is(DBM) && ha && regime.hd != 0);
+        let permitted = match access.kind {
+            READ | PROBE_READ => !el0 || is(AP1),
+            FETCH if el0 => !(device || is(UXN) || wxn && is(AP1) && writable),
+            FETCH => !(device || is(PXN) || (is(AP1) || wxn) && writable),
+            _ => writable && (!el0 || is(AP1)),
+        };
+        if !permitted {
+            return fault(PERMISSION + u16::from(level));
+        }
+
+        let accessed = !is(AF) && access.kind < PROBE_READ;
+        let dirtied = is(AP2) && matches!(access.kind, WRITE | UPDATE);
+        let inside = (1 << (12 + 9 * self.left)) - 1;
+        Answer {
+            output: self.base() | access.address & inside,
+            tag: SUCCESS,
+            refusal: 0,
+            code: 0,
+            level,
+            attribute,
+            shareability: (self.value >> 8 & 3) as u8,
+            nonglobal: u8::from(is(NG)),
+            accessed: u8::from(accessed),
+            dirtied: u8::from(dirtied),
+            cacheable: u8::from(is(AF) || accessed),
+            reads,
+        }
+    }
+
+    fn mark(&mut self, answer: &Answer) {
+        if answer.accessed != 0 {
+            self.value |= AF;
+        }
+        if answer.dirtied != 0 {
+            self.value &= !AP2;
+        }
+    }
+}
+
+/// The walk behind the checks, and the leaf as it leaves it.
+fn translate(memory: &mut [u8], regime: &Regime, access: &Access) -> (Answer, Option<Leaf>) {
+    let pool = &mut memory[regime.start..regime.start + regime.length];
+    let Found {
+        mut leaf,
+        offset,
+        reads,
+    } = match find(pool, regime, access.address) {
+        Ok(found) => found,
+        Err(fault) => return (fault, None),
+    };
+    let answer = leaf.judge(regime, access, reads);
+    if answer.accessed != 0 || answer.dirtied != 0 {
+        leaf.mark(&answer);
+        pool[offset..offset + 8].copy_from_slice(&leaf.value.to_le_bytes());
+    }
+    (answer, Some(leaf))
+}
+
+#[inline(never)]
+pub fn walk(memory: &mut [u8], regime: &Regime, access: &Access) -> Answer {
+    let refusal = refuse_regime(memory.len(), regime).or_else(|| refuse_access(access));
+    match refusal {
+        Some(refusal) => refused(refusal),
+        None => translate(memory, regime, access).0,
+    }
+}
+
+#[derive(Clone, Copy)]
+struct Entry {
+    page: u64,
+    leaf: Leaf,
+}
+
+pub struct Session {
+    regime: Option<Regime>,
+    entries: [Option<Entry>; 64],
+}
+
+impl Session {
+    pub fn empty() -> Session {
+        Session {
+            regime: None,
+            entries: [None; 64],
+        }
+    }
+
+    #[inline(never)]
+    pub fn set_regime(&mut self, memory: &[u8], regime: &Regime) -> u8 {
+        if let Some(refusal) = refuse_regime(memory.len(), regime) {
+            return refusal;
+        }
+        self.regime = Some(*regime);
+        self.entries = [None; 64];
+        0
+    }
+
+    #[inline(never)]
+    pub fn access(&mut self, memory: &mut [u8], access: &Access) -> Answer {
+        let Some(regime) = &self.regime else {
+            return refused(9);
+        };
+        if !pool_fits(memory.len(), regime) {
+            return refused(1);
+        }
+        if let Some(refusal) = refuse_access(access) {
+            return refused(refusal);
+        }
+
+        let page = access.address >> 12;
+        let place = &mut self.entries[(page % 64) as usize];
+        if let Some(entry) = place.filter(|entry| entry.page == page) {
+            let answer = entry.leaf.judge(regime, access, 0);
+            if answer.dirtied == 0 {
+                return answer;
+            }
+        }
+        let (answer, leaf) = translate(memory, regime, access);
+        if answer.cacheable != 0 {
+            *place = leaf.map(|leaf| Entry { page, leaf });
+        }
+        answer
+    }
+
+    #[inline(never)]
+    pub fn invalidate_all(&mut self) {
+        self.entries = [None; 64];
+    }
+}
