@@ -21,7 +21,8 @@ use vmsa::Regime;
 use vmsa::RegimeWords;
 use walk::Kept;
 
-pub const ENTRIES: u64 = 64;
+// How many TLB entries a session has; specs/Model.antt has the same number.
+pub const ENTRIES: usize = 64;
 
 // A TLB entry: the leaf that it holds of a page, where held is not 0. All numbers, so that any bytes are an entry.
 #[repr(C)]
@@ -36,7 +37,7 @@ pub struct Entry {
 #[repr(C)]
 pub struct Session {
     pub regime: RegimeWords,
-    pub entries: [Entry; 64],
+    pub entries: [Entry; ENTRIES],
     pub set: u8,
 }
 
@@ -147,7 +148,7 @@ impl Session {
         let entry = Entry::empty();
         Session {
             regime: RegimeWords::of(Regime::new()),
-            entries: [entry; 64],
+            entries: [entry; ENTRIES],
             set: 0,
         }
     }
@@ -166,7 +167,7 @@ impl Session {
                 let words = RegimeWords::of(r);
                 let session = Session {
                     regime: words,
-                    entries: [entry; 64],
+                    entries: [entry; ENTRIES],
                     set: 1,
                 };
                 Changed {
@@ -182,7 +183,7 @@ impl Session {
         ensures { λ s. ⌜ ((m : List ℕ) → stepped s m done ≡ dropCall ours (sessionView self) m) ⌝ }
     {
         let entry = Entry::empty();
-        self.entries = [entry; 64];
+        self.entries = [entry; ENTRIES];
         self
     }
 
@@ -190,7 +191,7 @@ impl Session {
     pub fn entry_of(self, page: u64) -> Entry
         ensures { λ e. ⌜ e ≡ getD (self .entries) (entryOf page) noEntry ⌝ }
     {
-        let i = (page % ENTRIES) as usize;
+        let i = (page as usize) % ENTRIES;
         let entries = self.entries;
         entries[i]
     }
@@ -203,7 +204,7 @@ impl Session {
         let Kept::Leaf(leaf) = kept else {
             return self;
         };
-        let i = (page % ENTRIES) as usize;
+        let i = (page as usize) % ENTRIES;
         self.entries[i] = Entry {
             page: page,
             value: leaf.value,
