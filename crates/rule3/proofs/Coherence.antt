@@ -113,9 +113,11 @@ module _ (W : Walker) (L : Lawful W) where
     here : locate R m p ≡ found at leaf count
     agree : L .Agree R h leaf
 
-  abbrev FreshEntry : Regime → List ℕ → Entry → Type 0
-  FreshEntry R m empty = Unit {0}
-  FreshEntry R m (holds p h) = Freshly R m p h
+  -- under the regime of the access that filled the entry
+  abbrev FreshEntry : List ℕ → Entry → Option Moment → Type 0
+  FreshEntry m empty t = Unit {0}
+  FreshEntry m (holds p h) none = Unit {0}
+  FreshEntry m (holds p h) (some t) = Freshly (t .regime) m p h
 
   pub record Inv (s : Session) (m : List ℕ) (past : List Event) : Type 0 where
     sized : length (s .entries) ≡ entryCount
@@ -123,7 +125,7 @@ module _ (W : Walker) (L : Lawful W) where
     valid : (R : Regime) → regimeOf past ≡ some R → settingCheck R ≡ Accepted
     matches : (i : ℕ) → i < entryCount → Matches (length m) (regimeOf past) (getD (s .entries) i empty) (latest W counted past i)
     last : (i : ℕ) → i < entryCount → pageAt (latest W anyCount past i) ≡ pageAt (latest W counted past i)
-    fresh-in : settled past ≡ true → (R : Regime) → regimeOf past ≡ some R → (i : ℕ) → i < entryCount → FreshEntry R m (getD (s .entries) i empty)
+    fresh-in : settled past ≡ true → (i : ℕ) → i < entryCount → FreshEntry m (getD (s .entries) i empty) (latest W counted past i)
     bytes : Bytes m
     every : Every W past
 
@@ -139,7 +141,7 @@ module _ (W : Walker) (L : Lawful W) where
       → ((i : ℕ) → i < entryCount → pageAt (latest W anyCount (e ∷ past) i) ≡ pageAt (latest W counted past i))
       → length m′ ≡ length m
       → Bytes m′
-      → (settled (e ∷ past) ≡ true → (R : Regime) → regimeOf past ≡ some R → (i : ℕ) → i < entryCount → FreshEntry R m′ (getD (s .entries) i empty))
+      → (settled (e ∷ past) ≡ true → (i : ℕ) → i < entryCount → FreshEntry m′ (getD (s .entries) i empty) (latest W counted past i))
       → Kept W past (e .made) (e .reply) (e .found) (e .left)
       → Inv s m′ (e ∷ past)
   carry {s} {m} {m′} {past} e I hr hl ha hs hb hf hk =
@@ -150,7 +152,7 @@ module _ (W : Walker) (L : Lawful W) where
         matches = λ i lt.
             subst₃ (λ (n : ℕ) (o : Option Regime) (t : Option Moment). Matches n o (getD (s .entries) i empty) t) (sym hs) (sym hr) (sym (hl i)) (I .matches i lt);
         last = λ i lt. ha i lt ∙ ap pageAt (sym (hl i));
-        fresh-in = λ st R q. hf st R (sym hr ∙ q);
+        fresh-in = λ st i lt. subst⁻¹ (λ (t : Option Moment). FreshEntry m′ (getD (s .entries) i empty) t) (hl i) (hf st i lt);
         bytes = hb;
         every = (hk, I .every);
       }
@@ -172,7 +174,7 @@ module _ (W : Walker) (L : Lawful W) where
             subst₂ (λ (pl : Entry) (t : Option Moment). Matches (length m) (regimeOf (e ∷ past)) pl t)
             (sym (getD-replicate entryCount i empty empty lt)) (sym (hc i)) tt;
         last = λ i lt. ap pageAt (ha i ∙ sym (hc i));
-        fresh-in = λ st R q i lt. subst⁻¹ (λ (pl : Entry). FreshEntry R m pl) (getD-replicate entryCount i empty empty lt) tt;
+        fresh-in = λ st i lt. subst⁻¹ (λ (pl : Entry). FreshEntry m pl (latest W counted (e ∷ past) i)) (getD-replicate entryCount i empty empty lt) tt;
         bytes = hb;
         every = (hk, ev);
       }
@@ -314,9 +316,12 @@ module _ (W : Walker) (L : Lawful W) where
               go true hb = go₂ hb (eqb (f .at) at) refl
               go false hb = f
 
-          fresh-place : (pl : Entry) → FreshEntry R m pl → FreshEntry R m′ pl
-          fresh-place empty f = tt
-          fresh-place (holds p h) f = fresh-on p h f
+          fresh-place : (pl : Entry) (t : Option Moment) → Matches (length m) (regimeOf past) pl t → FreshEntry m pl t → FreshEntry m′ pl t
+          fresh-place empty t M f = tt
+          fresh-place (holds p h) none M f = tt
+          fresh-place (holds p h) (some t) M f =
+              let rr : t .regime ≡ R = Option·some-injective (t .regime) R (sym (M .regime-eq) ∙ q) in
+              subst⁻¹ (λ (X : Regime). Freshly X m′ p h) rr (fresh-on p h (subst (λ (X : Regime). Freshly X m p h) rr f))
 
           abbrev t′ : Moment
           t′ = record { regime = R; page = page R a; left = m′ }
@@ -343,9 +348,7 @@ module _ (W : Walker) (L : Lawful W) where
                 valid = I .valid;
                 matches = λ i lt. match i lt (eqb (entryOf (page R a)) i) refl;
                 last = λ i lt. ends i lt (eqb (entryOf (page R a)) i) refl;
-                fresh-in = λ st S r i lt.
-                    subst (λ (X : Regime). FreshEntry X m′ (getD pl′ i empty)) (Option·some-injective R S (sym q ∙ r))
-                    (anew st i lt (eqb (entryOf (page R a)) i) refl);
+                fresh-in = λ st i lt. anew st i lt (eqb (entryOf (page R a)) i) refl;
                 bytes = m′-bytes;
                 every = (hk, I .every);
               }
@@ -378,13 +381,17 @@ module _ (W : Walker) (L : Lawful W) where
                   ∙ I .last i lt
                   ∙ sym (ap pageAt (named counted o n m′ c₁ i ∙ ap (λ (b : Bool). pick b (some t′) (latest W counted past i)) k))
 
-              anew : settled past ≡ true → (i : ℕ) → i < entryCount → (b : Bool) → eqb (entryOf (page R a)) i ≡ b → FreshEntry R m′ (getD pl′ i empty)
+              anew : settled past ≡ true → (i : ℕ) → i < entryCount → (b : Bool) → eqb (entryOf (page R a)) i ≡ b
+                  → FreshEntry m′ (getD pl′ i empty) (latest W counted (seen o n m′ ∷ past) i)
               anew st i lt true k =
-                  subst (λ (pl : Entry). FreshEntry R m′ pl)
+                  subst₂ (λ (pl : Entry) (t : Option Moment). FreshEntry m′ pl t)
                   (sym (ap (λ (j : ℕ). getD pl′ j empty) (sym (eqb-true (entryOf (page R a)) i k)) ∙ pl′-same))
+                  (sym (named counted o n m′ c₁ i ∙ ap (λ (b : Bool). pick b (some t′) (latest W counted past i)) k))
                   (record { at = at; leaf = h′; count = n; here = stays; agree = L .agree-self R u a hb })
               anew st i lt false k =
-                  subst (λ (pl : Entry). FreshEntry R m′ pl) (sym (pl′-other i k)) (fresh-place (getD (s .entries) i empty) (I .fresh-in st R q i lt))
+                  subst₂ (λ (pl : Entry) (t : Option Moment). FreshEntry m′ pl t) (sym (pl′-other i k))
+                  (sym (named counted o n m′ c₁ i ∙ ap (λ (b : Bool). pick b (some t′) (latest W counted past i)) k))
+                  (fresh-place (getD (s .entries) i empty) (latest W counted past i) (I .matches i lt) (I .fresh-in st i lt))
 
           -- the walk leaves its place alone
           passed : cacheableIn o ≡ false → Kept W past (access a) (answered o n) m m′ → Inv s m′ (seen o n m′ ∷ past)
@@ -392,8 +399,7 @@ module _ (W : Walker) (L : Lawful W) where
               carry (seen o n m′) I refl (unnamed counted o n m′ (ap (λ (x : Bool). x && counted n) hb))
               (λ i lt. ap pageAt (unnamed anyCount o n m′ (ap (λ (x : Bool). x && true) hb) i) ∙ I .last i lt)
               (if-length (updates o) R m at (stamp o (u .value)) room) m′-bytes
-              (λ st S r i lt. subst (λ (X : Regime). FreshEntry X m′ (getD (s .entries) i empty)) (Option·some-injective R S (sym q ∙ r))
-              (fresh-place (getD (s .entries) i empty) (I .fresh-in st R q i lt)))
+              (λ st i lt. fresh-place (getD (s .entries) i empty) (latest W counted past i) (I .matches i lt) (I .fresh-in st i lt))
               hk
 
           reached : plainly W R m a ≡ toldOf (walked W R m a) → Then m past (access a) (learn W s (page R a) (landed W R m at u n o))
@@ -427,7 +433,17 @@ module _ (W : Walker) (L : Lawful W) where
         page-at (holds p′ x) none p h M z = absurd M
         page-at (holds p′ x) (some t) p h M z = let e = M .page-eq in cc
 
-        -- an access that is answered from its place
+        -- a held leaf that is fresh, under the regime last accepted
+        fresh-held : (pl : Entry) (t : Option Moment) (p : ℕ) (h : Leaf) → Matches (length m) (regimeOf past) pl t → FreshEntry m pl t → pl ≡ holds p h → Freshly R m p h
+        fresh-held empty t p h M f z = absurd (let y : _≡_ {A = ℕ} 0 1 = cc in omega arith)
+        fresh-held (holds p′ x) none p h M f z = absurd M
+        fresh-held (holds p′ x) (some t) p h M f z =
+            let rr : t .regime ≡ R = Option·some-injective (t .regime) R (sym (M .regime-eq) ∙ q) in
+            let pp : p′ ≡ p = cc in
+            let hh : x ≡ h = cc in
+            subst₃ (λ (X : Regime) (n : ℕ) (l : Leaf). Freshly X m n l) rr pp hh f
+
+        -- an access that is answered from its entry
         hit : andThen (memoryCheck R (length m)) (accessCheck a) ≡ Accepted → (h : Leaf) → held (s .entries) (page R a) ≡ some h
             → dirtiedIn (judge R h a) ≡ false → Then m past (access a) (record { session = s; memory = m; reply = answered (judge R h a) 0 })
         hit y h hh hd =
@@ -478,7 +494,8 @@ module _ (W : Walker) (L : Lawful W) where
             good : AccessIn W (regimeOf past) (settled past) a (answered x 0) m m
             good =
                 subst⁻¹ (λ (z : Option Regime). AccessIn W z (settled past) a (answered x 0) m m) q
-                (λ st. same (subst (λ (pl : Entry). FreshEntry R m pl) is (I .fresh-in st R q (entryOf (page R a)) (entry-lt (page R a)))))
+                (λ st. same (fresh-held (getD (s .entries) (entryOf (page R a)) empty) (latest W counted past (entryOf (page R a))) (page R a) h
+                (I .matches (entryOf (page R a)) (entry-lt (page R a))) (I .fresh-in st (entryOf (page R a)) (entry-lt (page R a))) is))
 
         unrefused : andThen (memoryCheck R (length m)) (accessCheck a) ≡ Accepted → Then m past (access a) (accessHeld W s m R a (held (s .entries) (page R a)))
         unrefused y = go (held (s .entries) (page R a)) refl
@@ -659,7 +676,7 @@ module _ (W : Walker) (L : Lawful W) where
         valid = λ R q. absurd (nothing q);
         matches = λ i lt. subst⁻¹ (λ (pl : Entry). Matches (length m) none pl none) (getD-replicate entryCount i empty empty lt) tt;
         last = λ i lt. refl;
-        fresh-in = λ st R q. absurd (nothing q);
+        fresh-in = λ st i lt. subst⁻¹ (λ (pl : Entry). FreshEntry m pl none) (getD-replicate entryCount i empty empty lt) tt;
         bytes = hb;
         every = tt;
       }

@@ -2,6 +2,7 @@
 use Prim.Native.Nat.{ℕ, _+_, _-_, _≤_}
 use mathlib.Core.Bool.{Bool, true, false}
 use mathlib.Core.List.{List, [], _∷_, _++_}
+use mathlib.Core.Option.{Option}
 use mathlib.Core.Path.{_≡_, refl, sym, ap, ap₂, subst, _∙_}
 use native.Mathlib.Omega.{arith}
 use lib.ListN.{length}
@@ -23,7 +24,7 @@ use Rattle.session.specs.Ours.{offsetOf, ours}
 use Rattle.session.specs.View.{sessionView, stepped}
 use Rattle.session.proofs.Walking.{first-append, walkedPool, walked-pool}
 use Rattle.session.proofs.Calls.{Storable, store-accepted}
-use Rattle.rule3.specs.Events.{Event, World, start, run, isDone, empties, asksDrop, settled, isDrop, dropped}
+use Rattle.rule3.specs.Events.{Event, World, start, run, isDone, regimeOf, empties, asksDrop, settled, isDrop, dropped}
 use Rattle.rule3.specs.Rule3.{Told, plainly, Rule3}
 use Rattle.rule3.specs.Lawful.{unlessRefused, Lawful}
 use Rattle.rule3.specs.Code.{Calls, none-yet, more}
@@ -116,21 +117,21 @@ rule-3-code m₀ b {s} {m} {past} calls = claim ours lawful (sessionView s) m pa
 
 -- ---- the customer's word "drop": it is one way to be settled
 
-settled-by : (e : Event) (c : Call) (x y : Bool) → (x ≡ true → y ≡ true) → pick (isDrop c) true (pick (asksDrop e c) false x) ≡ true
-    → pick (empties c (e .reply)) true (pick (asksDrop e c) false y) ≡ true
-settled-by e (setRegime r) x y h k = by (isDone (e .reply))
+settled-by : (o : Option Regime) (e : Event) (c : Call) (x y : Bool) → (x ≡ true → y ≡ true) → pick (isDrop c) true (pick (asksDrop o e c) false x) ≡ true
+    → pick (empties c (e .reply)) true (pick (asksDrop o e c) false y) ≡ true
+settled-by o e (setRegime r) x y h k = by (isDone (e .reply))
   where
     by : (b : Bool) → pick b true y ≡ true
     by true = refl
     by false = h k
-settled-by e (access a) x y h k = h k
-settled-by e (store address value) x y h k = by (isDone (e .reply)) k
+settled-by o e (access a) x y h k = h k
+settled-by o e (store address value) x y h k = by (isDone (e .reply)) k
   where
     by : (b : Bool) → pick b false x ≡ true → pick b false y ≡ true
     by true k = k
     by false k = h k
-settled-by e dropAll x y h k = refl
+settled-by o e dropAll x y h k = refl
 
 pub drop-settles : (past : List Event) → dropped past ≡ true → settled past ≡ true
 drop-settles [] h = refl
-drop-settles (e ∷ before) h = settled-by e (e .made) (dropped before) (settled before) (drop-settles before) h
+drop-settles (e ∷ before) h = settled-by (regimeOf before) e (e .made) (dropped before) (settled before) (drop-settles before) h

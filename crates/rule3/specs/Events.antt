@@ -64,17 +64,17 @@ empties (access a) reply = false
 empties (store address value) reply = false
 empties dropAll reply = true
 
--- a call that asks for a drop: an accepted store
-abbrev pub asksDrop : Event → Call → Bool
-asksDrop e (setRegime R) = false
-asksDrop e (access a) = false
-asksDrop e (store address value) = isDone (e .reply)
-asksDrop e dropAll = false
+-- a call that asks for a drop, by the regime before it and the memory that it found: an accepted store
+abbrev pub asksDrop : Option Regime → Event → Call → Bool
+asksDrop o e (setRegime R) = false
+asksDrop o e (access a) = false
+asksDrop o e (store address value) = isDone (e .reply)
+asksDrop o e dropAll = false
 
 -- between here and every accepted store before there is an emptying
 abbrev pub settled : List Event → Bool
 settled [] = true
-settled (e ∷ before) = pick (empties (e .made) (e .reply)) true (pick (asksDrop e (e .made)) false (settled before))
+settled (e ∷ before) = pick (empties (e .made) (e .reply)) true (pick (asksDrop (regimeOf before) e (e .made)) false (settled before))
 
 -- the customer's word: a drop all between here and every accepted store before
 abbrev pub isDrop : Call → Bool
@@ -85,7 +85,7 @@ isDrop dropAll = true
 
 abbrev pub dropped : List Event → Bool
 dropped [] = true
-dropped (e ∷ before) = pick (isDrop (e .made)) true (pick (asksDrop e (e .made)) false (dropped before))
+dropped (e ∷ before) = pick (isDrop (e .made)) true (pick (asksDrop (regimeOf before) e (e .made)) false (dropped before))
 
 -- an earlier access: its regime, its page, and the memory as it left it
 pub record Moment : Type 0 where
