@@ -1,6 +1,6 @@
 //! Links `libcapi.a` into the binary. It is looked for in the folder named
 //! by `VMSA_LIB` (taken from this package's folder if relative), or else in
-//! `../target/staticlib`.
+//! `../target/staticlib`. `bench` is built with this file too.
 //!
 //! The archive goes to the binary alone: a `rustc-link-lib` line would hand
 //! it to the lib target too, and then the tests could not be built without
@@ -23,5 +23,4 @@ fn main() {
 
     println!("cargo:rerun-if-changed={}", archive.display());
     println!("cargo:rerun-if-env-changed=VMSA_LIB");
-    println!("cargo:rerun-if-changed=build.rs");
 }

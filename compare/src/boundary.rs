@@ -1,4 +1,4 @@
-//! The library's C face: its structs, and a safe way to call it.
+//! The library's C interface: its structs, and a safe way to call it.
 //!
 //! The functions themselves are declared in `main.rs`, so that this module
 //! can be built and tested without the library.

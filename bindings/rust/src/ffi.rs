@@ -4,7 +4,9 @@
 
 use std::mem::{offset_of, size_of};
 
+// The path is named because `bench` takes this file in from its own folder.
 #[cfg(test)]
+#[path = "ffi/tests.rs"]
 mod tests;
 
 #[repr(C)]

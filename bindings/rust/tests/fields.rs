@@ -101,53 +101,50 @@ fn roots() -> Vec<u8> {
 /// are 1, so that it lies in range 1 for T 16 and T 25.
 const UPPER: VirtAddr = VirtAddr(0xffff_ff80_0040_3abc);
 
-#[test]
-fn range_0() {
+/// For each range: its root, T and disable flag, and what they make of an
+/// address with the low bits of `ADDRESS`.
+const RANGES: [(u64, u8, bool, Result<u64, u16>); 4] = [
+    (POOL, 16, false, Ok(0x8000_5abc)),
+    (POOL + 0x4000, 16, false, Ok(0xc040_3abc)),
+    (POOL, 25, false, Ok(0xa000_3abc)),
+    (POOL, 16, true, Err(4)),
+];
+
+/// Sets one range by `set` to each of `RANGES`; `inside` lies in it, and the
+/// address `outside`, which lies in the other, keeps its answer.
+fn one_range(
+    set: fn(Regime, Range) -> Regime,
+    inside: Access,
+    outside: Access,
+    kept: Result<u64, u16>,
+) {
     let memory = roots();
-    let of = |root, tsz, disabled| {
-        regime().range0(Range {
+    let outcome = |regime: &Regime, access: &Access| {
+        let answer = ask(&memory, regime, access);
+        answer.map(|found| found.output.0).map_err(stop)
+    };
+    for (root, tsz, disabled, expected) in RANGES {
+        let range = Range {
             root: PhysAddr(root),
             tsz,
             disabled,
-        })
-    };
-    let upper = Access::read(UPPER, 4).el0();
-    for (root, tsz, disabled, expected) in [
-        (POOL, 16, false, Ok(0x8000_5abc)),
-        (POOL + 0x4000, 16, false, Ok(0xc040_3abc)),
-        (POOL, 25, false, Ok(0xa000_3abc)),
-        (POOL, 16, true, Err(4)),
-    ] {
-        let regime = of(root, tsz, disabled);
-        let answer = ask(&memory, &regime, &read());
-        assert_eq!(answer.map(|found| found.output.0).map_err(stop), expected);
-        // The other range has no say.
-        assert_eq!(code(ask(&memory, &regime, &upper)), 4);
+        };
+        let regime = set(regime(), range);
+        assert_eq!(outcome(&regime, &inside), expected);
+        assert_eq!(outcome(&regime, &outside), kept);
     }
 }
 
 #[test]
-fn range_1() {
-    let memory = roots();
-    let of = |root, tsz, disabled| {
-        regime().range1(Range {
-            root: PhysAddr(root),
-            tsz,
-            disabled,
-        })
-    };
+fn range_0() {
     let upper = Access::read(UPPER, 4).el0();
-    for (root, tsz, disabled, expected) in [
-        (POOL, 16, false, Ok(0x8000_5abc)),
-        (POOL + 0x4000, 16, false, Ok(0xc040_3abc)),
-        (POOL, 25, false, Ok(0xa000_3abc)),
-        (POOL, 16, true, Err(4)),
-    ] {
-        let regime = of(root, tsz, disabled);
-        let answer = ask(&memory, &regime, &upper);
-        assert_eq!(answer.map(|found| found.output.0).map_err(stop), expected);
-        assert_eq!(output(ask(&memory, &regime, &read())), 0x8000_5abc);
-    }
+    one_range(Regime::range0, read(), upper, Err(4));
+}
+
+#[test]
+fn range_1() {
+    let upper = Access::read(UPPER, 4).el0();
+    one_range(Regime::range1, upper, read(), Ok(0x8000_5abc));
 }
 
 fn stop(stop: Stop) -> u16 {
