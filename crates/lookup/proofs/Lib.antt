@@ -1,5 +1,6 @@
-pub mod Shown
+pub mod Levels
 pub mod Decoding
 pub mod Reach
+pub mod Packing
 pub mod Readers
 pub mod Page

@@ -1,20 +1,21 @@
 -- Facts of any lookup, over any reader: how many descriptors it visits, and what holds of a leaf that it reaches.
-use Prim.Native.Nat.{ℕ, zero, suc, _+_, _*_, _-_, _/_, _%_, _^_, _<_, _≤_, zero-le, suc-le-suc}
-use mathlib.Core.Bool.{Bool, true, false, not, _&&_, _||_}
+use Prim.Native.Nat.{ℕ, zero, suc, _+_, _-_, _%_, _≤_, zero-le, suc-le-suc}
+use mathlib.Core.Bool.{Bool, true, false, _&&_, _||_}
 use mathlib.Core.List.{List, _∷_}
-use mathlib.Core.Path.{_≡_, refl, sym, ap, subst, _∙_}
+use mathlib.Core.Path.{_≡_, refl, subst}
 use native.Mathlib.Omega.{arith}
-use lib.Dec.{leb, eqb}
+use lib.Dec.{leb}
 use lib.ListN.{length}
-use borrow.Author.Tests.{eqb-false, leb-true}
+use borrow.Author.Tests.{leb-true}
 use Rattle.descriptor.specs.Bytes.{desc}
 use Rattle.descriptor.specs.Bits.{pick}
 use Rattle.descriptor.proofs.Tests.{clash, and-true, pick-both}
 use Rattle.vmsa.specs.Limits.{pageBits, tszLeast, Sized}
-use Rattle.vmsa.specs.Geometry.{levelOf, pageSize, span, strideBits, firstLeft, outputLimit, Paged}
+use Rattle.vmsa.specs.Geometry.{levelOf, firstLeft, outputLimit, Paged}
 use Rattle.vmsa.proofs.Geometry.{paged, first-le}
 use Rattle.vmsa.specs.declared.Regime.{Regime}
 use Rattle.vmsa.specs.declared.PhysAddr.{PhysAddr}
+use Rattle.vmsa.specs.declared.FaultKind.{FaultKind}
 use Rattle.vmsa.specs.declared.FaultKind.the-variants.{ExternalAbort, Translation, AddressSize}
 use Rattle.lookup.specs.declared.Word.{Word}
 use Rattle.lookup.specs.declared.Word.the-variants.{Value, Unreachable}
@@ -23,6 +24,7 @@ use Rattle.lookup.specs.declared.Next.the-variants as next
 use Rattle.lookup.specs.declared.Context.{Context}
 use Rattle.lookup.specs.Trace.{End, fault, leaf, Trace, ended}
 use Rattle.lookup.specs.Steps.{decoded, fetched, onward, onWord, followed, entryAt, entered, descend, upper, rangeOf, outside, contextOf, locate}
+use Rattle.lookup.specs.Packing.{Backed}
 use Rattle.lookup.proofs.Decoding.{is-table, aligned8}
 
 -- ---- the length of the visited list
@@ -117,26 +119,41 @@ pub entry-aligned : (c : Context) (left t : ℕ) → t % 8 ≡ 0 → entryAt c l
 unfolding entryAt
 entry-aligned c left t e = omega arith
 
-module _ (c : Context) (read : ℕ → Word) (g : Paged (c .page)) where
-  onward-good : (below : ℕ → Trace) (left a v : ℕ) → left ≤ 3 → a % 8 ≡ 0 → read a ≡ Value v → ((t : ℕ) → t % 8 ≡ 0 → Good c read (below t .end))
-      → (x : Next) → decoded (c .page) (c .limit) left v ≡ x → Good c read (onward below left a v x .end)
-  onward-good below left a v h e q k (next.Fault kind) d = tt
-  onward-good below left a v h e q k (next.Table table) d = k (table .0) (aligned8 (c .page) (table .0) g (is-table (c .page) (c .limit) left v table d .aligned))
-  onward-good below left a v h e q k next.Leaf d = record { value = q; leads = d; low = h; aligned = e }
+-- what holds of every end, where T holds of every table's address
+module _ (c : Context) (read : ℕ → Word) (T : ℕ → Type 0) (E : End → Type 0)
+    (at-fault : (kind : FaultKind) (left : ℕ) → left ≤ 3 → E (fault kind (levelOf left)))
+    (at-table : (left v : ℕ) (table : PhysAddr) → decoded (c .page) (c .limit) left v ≡ next.Table table → T (table .0))
+    (at-leaf : (left t v : ℕ) → left ≤ 3 → T t → read (entryAt c left t) ≡ Value v → decoded (c .page) (c .limit) left v ≡ next.Leaf → E (leaf (entryAt c left t) v left)) where
+  onward-end : (below : ℕ → Trace) (left t v : ℕ) → left ≤ 3 → T t → read (entryAt c left t) ≡ Value v → ((u : ℕ) → T u → E (below u .end))
+      → (x : Next) → decoded (c .page) (c .limit) left v ≡ x → E (onward below left (entryAt c left t) v x .end)
+  onward-end below left t v h e q k (next.Fault kind) d = at-fault kind left h
+  onward-end below left t v h e q k (next.Table table) d = k (table .0) (at-table left v table d)
+  onward-end below left t v h e q k next.Leaf d = at-leaf left t v h e q d
 
-  word-good : (z : Trace) (f : ℕ → Trace) (a : ℕ) → Good c read (z .end) → ((v : ℕ) → read a ≡ Value v → Good c read (f v .end))
-      → (w : Word) → read a ≡ w → Good c read (onWord z f w .end)
-  word-good z f a hz hf (Value v) e = hf v e
-  word-good z f a hz hf Unreachable e = hz
+  word-end : (z : Trace) (f : ℕ → Trace) (a : ℕ) → E (z .end) → ((v : ℕ) → read a ≡ Value v → E (f v .end)) → (w : Word) → read a ≡ w → E (onWord z f w .end)
+  word-end z f a hz hf (Value v) e = hf v e
+  word-end z f a hz hf Unreachable e = hz
 
-  pub descend-good : (n t : ℕ) → n ≤ 4 → t % 8 ≡ 0 → Good c read (descend c read n t .end)
-  unfolding descend entered followed
-  descend-good zero t h e = tt
-  descend-good (suc n) t h e =
+  pub descend-end : (n t : ℕ) → n ≤ 4 → T t → E (descend c read n t .end)
+  unfolding descend entered followed levelOf
+  descend-end zero t h e = at-fault Translation 0 zero-le
+  descend-end (suc n) t h e =
       let a = entryAt c n t in
-      word-good (ended (fault ExternalAbort (levelOf n))) (followed c (descend c read n) n a) a tt
-      (λ v q. onward-good (descend c read n) n a v (omega arith) (entry-aligned c n t e) q (λ u f. descend-good n u (omega arith) f) (decoded (c .page) (c .limit) n v) refl)
+      word-end (ended (fault ExternalAbort (levelOf n))) (followed c (descend c read n) n a) a (at-fault ExternalAbort n (omega arith))
+      (λ v q. onward-end (descend c read n) n t v (omega arith) e q (λ u f. descend-end n u (omega arith) f) (decoded (c .page) (c .limit) n v) refl)
       (read a) refl
+
+pub descend-good : (c : Context) (read : ℕ → Word) (g : Paged (c .page)) (n t : ℕ) → n ≤ 4 → t % 8 ≡ 0 → Good c read (descend c read n t .end)
+descend-good c read g =
+    descend-end c read (λ t. t % 8 ≡ 0) (Good c read) (λ kind left h. tt)
+    (λ left v table d. aligned8 (c .page) (table .0) g (is-table (c .page) (c .limit) left v table d .aligned))
+    (λ left t v h e q d. record { value = q; leads = d; low = h; aligned = entry-aligned c left t e })
+
+-- a level is one of the four, and a leaf's value stands in the pool
+pub descend-backed : (c : Context) (pool : List ℕ) (base n t : ℕ) → n ≤ 4 → Backed pool base (descend c (fetched pool base) n t .end)
+unfolding levelOf
+descend-backed c pool base n t h =
+    descend-end c (fetched pool base) (λ t. Unit {0}) (Backed pool base) (λ kind left h. omega arith) (λ left v table d. tt) (λ left t v h e q d. (h, q)) n t h tt
 
 pub context-paged : (r : Regime) (a : ℕ) → Paged (contextOf r a .page)
 unfolding contextOf

@@ -1,2 +1,3 @@
 pub mod Trace
 pub mod Steps
+pub mod Packing

@@ -1,6 +1,6 @@
 -- Steps 1 to 5 of the walk (01, "The walk"): from a guest address to a leaf, or a fault. A reader says what stands at a descriptor address.
 use Prim.Native.Nat.{ℕ, zero, suc, _+_, _*_, _-_, _/_, _%_, _^_, _<_}
-use mathlib.Core.Bool.{Bool, true, false, not, _&&_, _||_}
+use mathlib.Core.Bool.{Bool, not, _&&_, _||_}
 use mathlib.Core.List.{List}
 use lib.Dec.{leb, eqb}
 use lib.ListN.{length}
@@ -10,14 +10,13 @@ use Rattle.vmsa.specs.Limits.{addressLimit, pageBits}
 use Rattle.vmsa.specs.Geometry.{levelOf, pageSize, span, strideBits, blockAt, firstLeft, cut, outputLimit}
 use Rattle.vmsa.specs.declared.Regime.{Regime}
 use Rattle.vmsa.specs.declared.Range.{Range}
-use Rattle.vmsa.specs.declared.FaultKind.{FaultKind}
 use Rattle.vmsa.specs.declared.FaultKind.the-variants.{AddressSize, Translation, ExternalAbort}
 use Rattle.lookup.specs.declared.Word.{Word}
 use Rattle.lookup.specs.declared.Word.the-variants.{Value, Unreachable}
 use Rattle.lookup.specs.declared.Next.{Next}
 use Rattle.lookup.specs.declared.Next.the-variants as next
 use Rattle.lookup.specs.declared.Context.{Context}
-use Rattle.lookup.specs.Trace.{End, fault, leaf, Trace, ended, visit}
+use Rattle.lookup.specs.Trace.{fault, leaf, Trace, ended, visit}
 
 -- ---- steps 4 and 5: what a descriptor says at a level, for page bits p
 
@@ -46,6 +45,10 @@ unfoldable pub fetched : List ℕ → ℕ → ℕ → Word
 fetched pool base a = pick (leb base a && leb (a + 8) (base + length pool)) (Value (desc pool (a - base))) Unreachable
 
 -- ---- one level: its entry is read, and followed
+
+-- what the levels share, part by part
+abbrev pub context : ℕ → ℕ → ℕ → ℕ → Context
+context base limit input page = record { base = record { 0 = base }; limit = limit; input = input; page = page }
 
 -- the address of a table's entry: the index is the input's bits at that level (step 2)
 unfoldable pub entryAt : Context → ℕ → ℕ → ℕ

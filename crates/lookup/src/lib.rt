@@ -1,16 +1,26 @@
 // Steps 1 to 5 of the walk: from a guest address to a leaf descriptor, or a fault.
 ghost use mathlib.Core.Path.{_≡_};
-ghost use Prim.Native.Nat.{_+_, _*_, _≤_, _<_, _^_};
+ghost use Prim.Native.Nat.{suc, _+_, _*_, _≤_, _<_, _^_};
 ghost use Rattle.vmsa.specs.Limits.{addressLimit, tszLeast, tszMost, Sized};
 ghost use Rattle.vmsa.specs.Geometry.{levelOf, Paged};
 ghost use Rattle.lookup.specs.Trace.{fault, ended, shown};
-ghost use Rattle.lookup.specs.Steps.{invalid as invalidAt, isTable, addressIn, decoded, Sound, fetched, entryAt, followed, entered, descend, upper as upperAt, rangeOf, outside as outsideAt, locate as locateAt};
+ghost use Rattle.lookup.specs.Steps.{invalid as invalidAt, isTable, addressIn, decoded, Sound, fetched, context, entryAt, followed, descend, upper as upperAt, rangeOf, outside as outsideAt, locate as locateAt};
+ghost use Rattle.lookup.specs.Packing.{kindNumber, kindOf, joined, packed, Packs};
 use vmsa::FaultKind;
 use vmsa::Leaf;
 use vmsa::PhysAddr;
 use vmsa::Range;
 use vmsa::Regime;
 use vmsa::VirtAddr;
+
+// How many values the digits of a packed lookup have, and the number of a leaf; specs/Packing.antt has the same numbers.
+const READS: u64 = 8;
+
+const LEVELS: u64 = 4;
+
+const ENDINGS: u64 = 8;
+
+const LEAF: u64 = 6;
 
 // What the levels of one lookup share: the pool's address, the end of the output addresses,
 // the guest address below its range's size, and the page bits of the granule.
@@ -48,17 +58,53 @@ pub struct Located {
     pub leaf: Leaf,
 }
 
-fn failed(kind: FaultKind, left: u8, reads: u8) -> Located
-    requires { ⌜ left ≤ 3 ⌝ }
-    ensures { λ r. ⌜ r ≡ shown reads (ended (fault kind (levelOf left))) ⌝ }
+fn failed(kind: FaultKind, level: u8, reads: u8) -> Located
+    ensures { λ r. ⌜ r ≡ shown reads (ended (fault kind level)) ⌝ }
 {
     Located {
         ending: Ending::Fault(kind),
-        level: vmsa::level(left),
+        level: level,
         reads: reads,
         address: PhysAddr(0),
         leaf: Leaf { value: 0, left: 0 },
     }
+}
+
+// The number of a fault kind.
+fn kind_number(kind: FaultKind) -> u64
+    ensures { λ r. ⌜ (r ≡ kindNumber kind) × (r ≤ 5) ⌝ }
+{
+    match kind {
+        FaultKind::AddressSize => 0,
+        FaultKind::Translation => 1,
+        FaultKind::AccessFlag => 2,
+        FaultKind::Permission => 3,
+        FaultKind::ExternalAbort => 4,
+        FaultKind::Alignment => 5,
+    }
+}
+
+// The fault kind of a number.
+fn kind_of(number: u64) -> FaultKind
+    ensures { λ r. ⌜ r ≡ kindOf number ⌝ }
+{
+    match number {
+        0 => FaultKind::AddressSize,
+        1 => FaultKind::Translation,
+        2 => FaultKind::AccessFlag,
+        3 => FaultKind::Permission,
+        4 => FaultKind::ExternalAbort,
+        _ => FaultKind::Alignment,
+    }
+}
+
+// How a lookup ends, in one number: it passes in a register, where a struct would pass through memory at every level.
+// number is that of the fault kind or of a leaf, address that of the leaf's descriptor or 0.
+fn pack(reads: u8, left: u8, number: u64, address: u64) -> u64
+    requires { ⌜ (reads ≤ 4) × (left ≤ 3) × (number ≤ 6) × (address < 2 ^ 49) ⌝ }
+    ensures { λ n. ⌜ n ≡ joined reads (levelOf left) number address ⌝ }
+{
+    reads as u64 + READS * (vmsa::level(left) as u64 + LEVELS * (number + ENDINGS * address))
 }
 
 fn invalid(p: u8, left: u8, v: u64) -> bool
@@ -128,35 +174,75 @@ pub fn entry_at(c: Context, left: u8, table: PhysAddr) -> PhysAddr
 }
 
 // Reads the entry of a table, and follows it.
-fn enter(pool: &[u8], c: Context, table: PhysAddr, left: u8, reads: u8) -> Located
-    requires { ⌜ Paged (c .page) × (left + reads ≤ 3) × (table .0 < addressLimit) ⌝ }
-    ensures { λ r. ⌜ r ≡ shown reads (entered c (fetched (now (pool .entry)) (c .base .0)) (descend c (fetched (now (pool .entry)) (c .base .0)) left) left (table .0)) ⌝ }
+fn enter(
+    pool: &[u8],
+    base: u64,
+    limit: u64,
+    input: u64,
+    page: u8,
+    table: u64,
+    left: u8,
+    reads: u8,
+) -> u64
+    requires { ⌜ Paged page × (left + reads ≤ 3) × (table < addressLimit) ⌝ }
+    ensures { λ n. ⌜ n ≡ packed reads (descend (context base limit input page) (fetched (now (pool .entry)) base) (suc left) table) ⌝ }
 {
-    let at = entry_at(c, left, table);
-    let Word::Value(v) = fetch(pool, c.base, at) else {
-        return failed(FaultKind::ExternalAbort, left, reads + 1);
+    let c = Context {
+        base: PhysAddr(base),
+        limit: limit,
+        input: input,
+        page: page,
     };
-    follow(pool, c, at, v, left, reads + 1)
+    let at = entry_at(c, left, PhysAddr(table));
+    let Word::Value(v) = fetch(pool, c.base, at) else {
+        return pack(reads + 1, left, kind_number(FaultKind::ExternalAbort), 0);
+    };
+    follow(pool, base, limit, input, page, at.0, v, left, reads + 1)
 }
 
 // Decodes the descriptor v at an address, and descends at a table.
-fn follow(pool: &[u8], c: Context, at: PhysAddr, v: u64, left: u8, reads: u8) -> Located
-    requires { ⌜ Paged (c .page) × (left + reads ≤ 4) × (left ≤ 3) ⌝ }
-    ensures { λ r. ⌜ r ≡ shown reads (followed c (descend c (fetched (now (pool .entry)) (c .base .0)) left) left (at .0) v) ⌝ }
+fn follow(
+    pool: &[u8],
+    base: u64,
+    limit: u64,
+    input: u64,
+    page: u8,
+    at: u64,
+    v: u64,
+    left: u8,
+    reads: u8,
+) -> u64
+    requires { ⌜ Paged page × (left + reads ≤ 4) × (left ≤ 3) × (at < 2 ^ 49) ⌝ }
+    ensures { λ n. ⌜ n ≡ packed reads (followed (context base limit input page) (descend (context base limit input page) (fetched (now (pool .entry)) base) left) left at v) ⌝ }
 {
-    let p = c.page;
-    match decode(p, c.limit, left, v) {
-        Next::Fault(kind) => failed(kind, left, reads),
-        Next::Table(table) => enter(pool, c, table, left - 1, reads),
-        Next::Leaf => Located {
-            ending: Ending::Leaf,
-            level: vmsa::level(left),
-            reads: reads,
-            address: at,
-            leaf: Leaf {
-                value: v,
-                left: left,
-            },
+    match decode(page, limit, left, v) {
+        Next::Fault(kind) => pack(reads, left, kind_number(kind), 0),
+        Next::Table(table) => enter(pool, base, limit, input, page, table.0, left - 1, reads),
+        Next::Leaf => pack(reads, left, LEAF, at),
+    }
+}
+
+// A packed lookup over the pool, taken apart; the leaf is read again.
+fn unpack(pool: &[u8], base: PhysAddr, n: u64) -> Located
+    requires { ⌜ Packs (now pool) (base .0) n ⌝ }
+    ensures { λ r. ⌜ ((p : Packs (now (pool .entry)) (base .0) n) → r ≡ shown 0 (p .trace)) ⌝ }
+{
+    let reads = (n % READS) as u8;
+    let level = (n / READS % LEVELS) as u8;
+    let end = n / READS / LEVELS;
+    let number = end % ENDINGS;
+    if number != LEAF {
+        return failed(kind_of(number), level, reads);
+    }
+    let address = end / ENDINGS;
+    Located {
+        ending: Ending::Leaf,
+        level: level,
+        reads: reads,
+        address: PhysAddr(address),
+        leaf: Leaf {
+            value: descriptor::load(pool, (address - base.0) as usize),
+            left: vmsa::level(level),
         },
     }
 }
@@ -191,19 +277,16 @@ pub fn locate(pool: &[u8], r: Regime, a: VirtAddr) -> Located
     let range = range_of(r, a);
     let t = range.tsz;
     if range.disabled | outside(t, a) {
-        return failed(FaultKind::Translation, 3, 0);
+        return failed(FaultKind::Translation, 0, 0);
     }
     let limit = vmsa::output_limit(r.output);
     let root = range.root;
     if limit <= root.0 {
-        return failed(FaultKind::AddressSize, 3, 0);
+        return failed(FaultKind::AddressSize, 0, 0);
     }
     let base = r.pool.address;
-    let context = Context {
-        base: base,
-        limit: limit,
-        input: a.0 % descriptor::power(64 - t),
-        page: vmsa::PAGE_BITS,
-    };
-    enter(pool, context, root, vmsa::first_left(vmsa::PAGE_BITS, t), 0)
+    let input = a.0 % descriptor::power(64 - t);
+    let left = vmsa::first_left(vmsa::PAGE_BITS, t);
+    let n = enter(pool, base.0, limit, input, vmsa::PAGE_BITS, root.0, left, 0);
+    unpack(pool, base, n)
 }

@@ -2,10 +2,11 @@ use borrow.Author.Needs.{needs}
 use native.Mathlib.Omega.{arith}
 use Prim.Native.Nat.{ℕ, _<_, _+_, _*_}
 use mathlib.Core.Path.{sym, ap, _∙_}
-use Rattle.lookup.specs.Trace.{shown}
-use Rattle.lookup.specs.Steps.{descend, Sound, fetched}
+use Rattle.vmsa.specs.Geometry.{levelOf}
+use Rattle.lookup.specs.Packing.{joined, packed}
+use Rattle.lookup.specs.Steps.{context, descend, Sound, fetched}
 use Rattle.lookup.specs.declared.Next.the-variants.{Table}
-use Rattle.lookup.proofs.Shown.{fault-shown, table-shown, leaf-shown, abort-shown, value-shown, descend-down}
+use Rattle.lookup.proofs.Levels.{fault-packed, table-packed, leaf-packed, abort-packed, value-packed, down-up}
 use borrow.Fn.Kinds.{In}
 use borrow.Fn.PlainCycle.{Measures, is, falls, and}
 use Rattle.lookup.proofs.enter.Reads as enter
@@ -16,17 +17,17 @@ use Rattle.lookup.proofs.follow.Kinds as follow-kinds
 use Rattle.lookup.proofs.+enter+follow.Lts-follow as follow-lts
 use Rattle.lookup.proofs.decode.Reads as decode-reads
 use Rattle.lookup.proofs.entry_at.Reads as entry-at-reads
-use Rattle.lookup.proofs.failed.Reads as failed-reads
 use Rattle.lookup.proofs.fetch.Reads as fetch-reads
-use Rattle.vmsa.proofs.level.Reads as level-reads
+use Rattle.lookup.proofs.kind_number.Reads as kind-number-reads
+use Rattle.lookup.proofs.pack.Reads as pack-reads
 use Rattle.lookup.proofs.+enter+follow.{statement}
 use Rattle.lookup.proofs.+enter+follow.Tie.{close}
 
 abbrev μ-enter : Measures 1 enter-kinds.ps ℕ
-μ-enter κs a = 2 * a .1 .1 .1 .0 + 1
+μ-enter κs a = 2 * a .1 .1 .1 .1 .1 .1 .0 + 1
 
 abbrev μ-follow : Measures 1 follow-kinds.ps ℕ
-μ-follow κs a = 2 * a .1 .1 .1 .1 .0
+μ-follow κs a = 2 * a .1 .1 .1 .1 .1 .1 .1 .0
 
 abbrev enter-at : ℕ → In 1 enter-kinds.ps
 enter-at t = and 1 enter-kinds.ps (is 1 enter-kinds.ps μ-enter t) enter.Pre
@@ -41,10 +42,10 @@ abbrev follow-below : ℕ → In 1 follow-kinds.ps
 follow-below t = and 1 follow-kinds.ps (falls 1 follow-kinds.ps _<_ μ-follow t) follow.Pre
 
 abbrev enter-calls : ℕ → enter-lts.Claims
-enter-calls t = (entry-at-reads.Asked, entry-at-reads.Learnt, fetch-reads.Asked, fetch-reads.Learnt, failed-reads.Asked, failed-reads.Learnt, follow-below t, follow.Post)
+enter-calls t = (entry-at-reads.Asked, entry-at-reads.Learnt, fetch-reads.Asked, fetch-reads.Learnt, kind-number-reads.Asked, kind-number-reads.Learnt, pack-reads.Asked, pack-reads.Learnt, follow-below t, follow.Post)
 
 abbrev follow-calls : ℕ → follow-lts.Claims
-follow-calls t = (decode-reads.Asked, decode-reads.Learnt, failed-reads.Asked, failed-reads.Learnt, enter-below t, enter.Post, level-reads.Asked, level-reads.Learnt)
+follow-calls t = (decode-reads.Asked, decode-reads.Learnt, kind-number-reads.Asked, kind-number-reads.Learnt, pack-reads.Asked, pack-reads.Learnt, enter-below t, enter.Post)
 
 enter-entry-at-requires : (t : ℕ) → enter-lts.Need-entry-at-requires (enter-calls t) (enter-at t) enter.Post
 enter-entry-at-requires t c κs = search needs
@@ -58,18 +59,24 @@ enter-enum-known-v t c = search needs
 enter-enum-told : (t : ℕ) → enter-lts.Need-enum-told (enter-calls t) (enter-at t) enter.Post
 enter-enum-told t c = search needs
 
-enter-add-failed : (t : ℕ) → enter-lts.Need-add-failed (enter-calls t) (enter-at t) enter.Post
-enter-add-failed t c = search needs
+enter-add-pack : (t : ℕ) → enter-lts.Need-add-pack (enter-calls t) (enter-at t) enter.Post
+enter-add-pack t c = search needs
 
-enter-failed-requires : (t : ℕ) → enter-lts.Need-failed-requires (enter-calls t) (enter-at t) enter.Post
-enter-failed-requires t c κs = search needs
+enter-kind-number-requires : (t : ℕ) → enter-lts.Need-kind-number-requires (enter-calls t) (enter-at t) enter.Post
+enter-kind-number-requires t c κs = search needs
+
+enter-pack-requires : (t : ℕ) → enter-lts.Need-pack-requires (enter-calls t) (enter-at t) enter.Post
+enter-pack-requires t c κs = search needs
 
 enter-returns : (t : ℕ) → enter-lts.Need-returns (enter-calls t) (enter-at t) enter.Post
 enter-returns t c =
-    let a = c .before .before .before .before .before .before .args in
-    c .failed .ensures
-    ∙ sym (abort-shown (a .c) (fetched (a .pool .now) (a .c .base .0)) (descend (a .c) (fetched (a .pool .now) (a .c .base .0)) (a .left)) (a .left) (a .table .0) (a .reads)
-    (rw (← c .before .before .before .before .entry-at .ensures .0) (sym (c .before .before .before .fetch .ensures) ∙ c .before .enum-told .given .1)))
+    let a = c .before .before .before .before .before .before .before .args in
+    let k = context (a .base) (a .limit) (a .input) (a .page) in
+    let read = fetched (a .pool .now) (a .base) in
+    c .pack .ensures
+    ∙ ap (λ (number : ℕ). joined (a .reads + 1) (levelOf (a .left)) number 0) (c .before .kind-number .ensures .0)
+    ∙ sym (abort-packed k read (a .left) (a .table) (a .reads)
+    (rw (← c .before .before .before .before .before .entry-at .ensures .0) (sym (c .before .before .before .before .fetch .ensures) ∙ c .before .before .enum-told .given .1)))
 
 enter-add-follow : (t : ℕ) → enter-lts.Need-add-follow (enter-calls t) (enter-at t) enter.Post
 enter-add-follow t c = search needs
@@ -80,8 +87,10 @@ enter-follow-requires t c κs = search needs
 enter-returns-2 : (t : ℕ) → enter-lts.Need-returns-2 (enter-calls t) (enter-at t) enter.Post
 enter-returns-2 t c =
     let a = c .before .before .before .before .before .before .before .args in
+    let k = context (a .base) (a .limit) (a .input) (a .page) in
+    let read = fetched (a .pool .now) (a .base) in
     c .follow .ensures
-    ∙ sym (rw (← c .before .before .before .before .before .entry-at .ensures .0) at (value-shown (a .c) (fetched (a .pool .now) (a .c .base .0)) (descend (a .c) (fetched (a .pool .now) (a .c .base .0)) (a .left)) (a .left) (a .table .0) (a .reads) (c .before .before .v .given .0 .0)
+    ∙ sym (rw (← c .before .before .before .before .before .entry-at .ensures .0) at (value-packed k read (a .left) (a .table) (a .reads) (c .before .before .v .given .0 .0)
     (rw (← c .before .before .before .before .before .entry-at .ensures .0) (sym (c .before .before .before .before .fetch .ensures) ∙ c .before .before .v .given .1))))
 
 follow-decode-requires : (t : ℕ) → follow-lts.Need-decode-requires (follow-calls t) (follow-at t) follow.Post
@@ -90,8 +99,11 @@ follow-decode-requires t c κs = search needs
 follow-enum-known-kind : (t : ℕ) → follow-lts.Need-enum-known-kind (follow-calls t) (follow-at t) follow.Post
 follow-enum-known-kind t c = search needs
 
-follow-failed-requires : (t : ℕ) → follow-lts.Need-failed-requires (follow-calls t) (follow-at t) follow.Post
-follow-failed-requires t c κs = search needs
+follow-kind-number-requires : (t : ℕ) → follow-lts.Need-kind-number-requires (follow-calls t) (follow-at t) follow.Post
+follow-kind-number-requires t c κs = search needs
+
+follow-pack-requires : (t : ℕ) → follow-lts.Need-pack-requires (follow-calls t) (follow-at t) follow.Post
+follow-pack-requires t c κs = search needs
 
 follow-enum-known-table : (t : ℕ) → follow-lts.Need-enum-known-table (follow-calls t) (follow-at t) follow.Post
 follow-enum-known-table t c = search needs
@@ -109,27 +121,35 @@ follow-enter-requires t c κs =
 follow-enum-told : (t : ℕ) → follow-lts.Need-enum-told (follow-calls t) (follow-at t) follow.Post
 follow-enum-told t c = search needs
 
-follow-level-requires : (t : ℕ) → follow-lts.Need-level-requires (follow-calls t) (follow-at t) follow.Post
-follow-level-requires t c κs = search needs
+follow-pack-requires-2 : (t : ℕ) → follow-lts.Need-pack-requires-2 (follow-calls t) (follow-at t) follow.Post
+follow-pack-requires-2 t c κs = search needs
 
 follow-returns : (t : ℕ) → follow-lts.Need-returns (follow-calls t) (follow-at t) follow.Post
 follow-returns t c =
-    let a = c .before .before .before .before .before .before .args in
-    c .failed .ensures ∙ sym (fault-shown (a .c) (descend (a .c) (fetched (a .pool .now) (a .c .base .0)) (a .left)) (a .left) (a .at .0) (a .v) (a .reads) _ (sym (c .before .before .before .before .decode .ensures .0) ∙ c .before .before .kind .given .1))
+    let a = c .before .before .before .before .before .before .before .args in
+    let k = context (a .base) (a .limit) (a .input) (a .page) in
+    let read = fetched (a .pool .now) (a .base) in
+    c .pack .ensures
+    ∙ ap (λ (number : ℕ). joined (a .reads) (levelOf (a .left)) number 0) (c .before .kind-number .ensures .0)
+    ∙ sym (fault-packed k (descend k read (a .left)) (a .left) (a .at) (a .v) (a .reads) _ (sym (c .before .before .before .before .before .decode .ensures .0) ∙ c .before .before .before .kind .given .1))
 
 follow-returns-2 : (t : ℕ) → follow-lts.Need-returns-2 (follow-calls t) (follow-at t) follow.Post
 follow-returns-2 t c =
     let a = c .before .before .before .before .before .before .args in
-    let h : Sound (a .left) (Table (c .before .before .table .given .0 .0)) = rw (c .before .before .table .given .1) at (c .before .before .before .before .decode .ensures .1) in
+    let k = context (a .base) (a .limit) (a .input) (a .page) in
+    let read = fetched (a .pool .now) (a .base) in
+    let h : Sound (c .before .before .before .before .before .before .args .left) (Table (c .before .before .table .given .0 .0)) = rw (c .before .before .table .given .1) at (c .before .before .before .before .decode .ensures .1) in
     c .enter .ensures
-    ∙ sym (table-shown (a .c) (descend (a .c) (fetched (a .pool .now) (a .c .base .0)) (a .left)) (a .left) (a .at .0) (a .v) (a .reads) _ (sym (c .before .before .before .before .decode .ensures .0) ∙ c .before .before .table .given .1)
-    ∙ ap (shown (a .reads)) (descend-down (a .c) (fetched (a .pool .now) (a .c .base .0)) (a .left) _ (h .1)))
+    ∙ sym (table-packed k (descend k read (a .left)) (a .left) (a .at) (a .v) (a .reads) _ (sym (c .before .before .before .before .decode .ensures .0) ∙ c .before .before .table .given .1)
+    ∙ ap (λ (n : ℕ). packed (a .reads) (descend k read n (c .before .before .table .given .0 .0 .0))) (sym (down-up (a .left) (h .1))))
 
 follow-returns-3 : (t : ℕ) → follow-lts.Need-returns-3 (follow-calls t) (follow-at t) follow.Post
 follow-returns-3 t c =
     let a = c .before .before .before .before .before .args in
-    let e = leaf-shown (a .c) (descend (a .c) (fetched (a .pool .now) (a .c .base .0)) (a .left)) (a .left) (a .at .0) (a .v) (a .reads) (sym (c .before .before .before .decode .ensures .0) ∙ c .before .enum-told .given .1) in
-    rw (c .level .ensures) (sym e)
+    let k = context (a .base) (a .limit) (a .input) (a .page) in
+    let read = fetched (a .pool .now) (a .base) in
+    c .pack2 .ensures
+    ∙ sym (leaf-packed k (descend k read (a .left)) (a .left) (a .at) (a .v) (a .reads) (sym (c .before .before .before .decode .ensures .0) ∙ c .before .enum-told .given .1))
 
 pub +enter+follow-spec : {M : Type 1} → statement M
 +enter+follow-spec = close μ-enter μ-follow (λ t. enter-lts.spec (enter-calls t)
@@ -139,8 +159,9 @@ pub +enter+follow-spec : {M : Type 1} → statement M
     (enter-fetch-requires t)
     (enter-enum-known-v t)
     (enter-enum-told t)
-    (enter-add-failed t)
-    (enter-failed-requires t)
+    (enter-add-pack t)
+    (enter-kind-number-requires t)
+    (enter-pack-requires t)
     (enter-returns t)
     (enter-add-follow t)
     (enter-follow-requires t)
@@ -150,12 +171,13 @@ pub +enter+follow-spec : {M : Type 1} → statement M
     follow.Post
     (follow-decode-requires t)
     (follow-enum-known-kind t)
-    (follow-failed-requires t)
+    (follow-kind-number-requires t)
+    (follow-pack-requires t)
     (follow-enum-known-table t)
     (follow-sub-enter t)
     (follow-enter-requires t)
     (follow-enum-told t)
-    (follow-level-requires t)
+    (follow-pack-requires-2 t)
     (follow-returns t)
     (follow-returns-2 t)
     (follow-returns-3 t)

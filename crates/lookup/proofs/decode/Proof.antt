@@ -3,7 +3,7 @@ use mathlib.Core.Path.{sym, _∙_, _≡_}
 use borrow.Author.Tests.{le-leb, lt-leb}
 use mathlib.Core.Bool.{true}
 use Rattle.lookup.specs.Steps.{decoded, isTable}
-use Rattle.lookup.proofs.Shown.{table-left}
+use Rattle.lookup.proofs.Levels.{table-left}
 use Rattle.lookup.proofs.decode.Statement.{statement}
 use Rattle.lookup.proofs.decode.Tie as tie
 
