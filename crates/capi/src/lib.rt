@@ -8,6 +8,8 @@ ghost use Rattle.session.specs.Model.{fresh, setCall, accessCall, storeCall, dr
 ghost use Rattle.session.specs.Ours.{ours};
 ghost use Rattle.session.specs.View.{sessionView, stepped};
 ghost use Rattle.words.specs.Words.{accessOf, told, walkTold, changed, changedBy, accessed, accessedBy};
+use session::ENTRIES;
+use session::Entry;
 use session::Session;
 use vmsa::RegimeWords;
 use words::AccessWords;
@@ -52,10 +54,15 @@ pub extern "C" fn vmsa_session_set_regime(
 ) -> u8
     ensures { λ n. ⌜ changed (now (session .exit)) (now (memory .entry)) n ≡ changedBy (setCall ours (sessionView (now (session .entry))) (now (memory .entry)) (regimeOf regime)) ⌝ }
 {
-    let before = *session;
-    let x = words::set_words(before, memory, regime);
-    *session = x.session;
-    x.refusal
+    let x = words::set_words(memory.len(), regime);
+    if x.refusal != 0 {
+        return x.refusal;
+    }
+    let entry = Entry::empty();
+    session.regime = x.regime;
+    session.entries = [entry; ENTRIES];
+    session.set = 1;
+    0
 }
 
 // An access in the lent session and memory.
@@ -67,10 +74,15 @@ pub extern "C" fn vmsa_session_access(
 ) -> AnswerWords
     ensures { λ w. ⌜ accessed (now (session .exit)) (now (memory .exit)) w ≡ accessedBy (accessCall ours (sessionView (now (session .entry))) (now (memory .entry)) (accessOf access)) ⌝ }
 {
-    let before = *session;
-    let x = words::access_words(before, memory, access);
-    *session = x.session;
-    x.answer
+    let i = words::entry_of(access);
+    let entry = session.entries[i];
+    let hit = words::hit_entry(session.regime, session.set, entry, memory.len(), access);
+    if hit.hit {
+        return hit.answer;
+    }
+    let filled = words::access_entry(session.regime, session.set, entry, memory, access);
+    session.entries[i] = filled.entry;
+    filled.answer
 }
 
 // Stores one descriptor at a physical address: 0, or the number of the refusal, 9, 1 or 8.
@@ -83,10 +95,7 @@ pub extern "C" fn vmsa_session_store(
 ) -> u8
     ensures { λ n. ⌜ changed (now (session .exit)) (now (memory .exit)) n ≡ changedBy (storeCall ours (sessionView (now (session .entry))) (now (memory .entry)) address value) ⌝ }
 {
-    let before = *session;
-    let x = words::store_words(before, memory, address, value);
-    *session = x.session;
-    x.refusal
+    words::store_words(session.regime, session.set, memory, address, value)
 }
 
 // Empties every entry of the lent session.
@@ -94,7 +103,6 @@ pub extern "C" fn vmsa_session_store(
 pub extern "C" fn vmsa_session_invalidate_all(session: &mut Session)
     ensures { λ _. ⌜ ((m : List ℕ) → stepped (now (session .exit)) m done ≡ dropCall ours (sessionView (now (session .entry))) m) ⌝ }
 {
-    let before = *session;
-    let after = before.invalidate_all();
-    *session = after;
+    let entry = Entry::empty();
+    session.entries = [entry; ENTRIES];
 }

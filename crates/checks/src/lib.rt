@@ -104,9 +104,13 @@ fn access_size_bad(a: Access) -> bool
 {
     let kind = a.kind;
     let size = a.size;
-    !((size == 1) | (size == 2) | (size == 4) | (size == 8) | (size == 16))
-        | kind.is_fetch() & (!(size == 4) | !(a.address.0 % 4 == 0))
-        | kind.is_probe() & !(size == 1)
+    if !((size == 1) | (size == 2) | (size == 4) | (size == 8) | (size == 16)) {
+        return true;
+    }
+    if kind.is_fetch() {
+        return !(size == 4) | !(a.address.0 % 4 == 0);
+    }
+    kind.is_probe() & !(size == 1)
 }
 
 // One less, 0 for 0.

@@ -1,6 +1,6 @@
 -- What a leaf gives an access: the answer, and the leaf's new value (01, "Marks and answers").
 use Prim.Native.Nat.{ℕ, _+_, _%_}
-use mathlib.Core.Bool.{Bool, true, false, not, _&&_, _||_}
+use mathlib.Core.Bool.{Bool, false, not, _&&_, _||_}
 use Rattle.descriptor.specs.Bits.{pick}
 use Rattle.vmsa.specs.Limits.{pageBits}
 use Rattle.vmsa.specs.Geometry.{levelOf, span, cut}
@@ -67,6 +67,10 @@ passing r a l reads = record {
 -- steps 6 to 8, reads descriptors having been read
 unfoldable pub decision : Regime → Access → Leaf → ℕ → Decision
 decision r a l reads = firstFailing (leafSteps r a l) (failing l reads) (passing r a l reads)
+
+-- no step fails, and the leaf does not become dirty
+unfoldable pub passesClean : Regime → Access → Leaf → Bool
+passesClean r a l = firstFailing (leafSteps r a l) (λ (kind : FaultKind). false) (not (dirtyDue r a l))
 
 -- a verdict of the code, in these values
 abbrev pub seen : Verdict → Decision

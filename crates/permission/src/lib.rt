@@ -1,8 +1,9 @@
 // Steps 6 to 8 of the walk: what a leaf permits, and the updates that are due.
 ghost use mathlib.Core.Path.{_≡_};
 ghost use Prim.Native.Nat.{_≤_, _<_, _^_};
+ghost use Rattle.vmsa.specs.Answers.{view};
 ghost use Rattle.permission.specs.Permission.{attributeOf, writable as writableOf, clean as cleanOf, user as userOf, mayRead, mayWrite, mayFetch, permitted as permittedOf, misaligned as misalignedOf, flagFails, alignmentFails, permissionFails};
-ghost use Rattle.permission.specs.Decision.{flagDue, dirtyDue, updated as updatedTo, outputOf, failing as failingAt, passing as passingAt, decision, seen};
+ghost use Rattle.permission.specs.Decision.{flagDue, dirtyDue, updated as updatedTo, outputOf, failing as failingAt, passing as passingAt, decision, passesClean, seen};
 use vmsa::Access;
 use vmsa::Answer;
 use vmsa::Fault;
@@ -74,11 +75,13 @@ pub fn permitted(r: Regime, a: Access, l: Leaf) -> bool
     ensures { λ b. ⌜ b ≡ permittedOf r a l ⌝ }
 {
     let kind = a.kind;
-    let fetch = may_fetch(r, a.el0, l);
-    let write = may_write(r, a.el0, l);
-    let read = may_read(a.el0, l);
-    let data = descriptor::select_bool(kind.asks_write(), write, read);
-    descriptor::select_bool(kind.is_fetch(), fetch, data)
+    if kind.is_fetch() {
+        return may_fetch(r, a.el0, l);
+    }
+    if kind.asks_write() {
+        return may_write(r, a.el0, l);
+    }
+    may_read(a.el0, l)
 }
 
 // A read, write or update whose address is not a multiple of its size.
@@ -100,14 +103,20 @@ fn alignment_fails(r: Regime, a: Access, l: Leaf) -> bool
     requires { ⌜ 0 < a .size ⌝ }
     ensures { λ b. ⌜ b ≡ alignmentFails r a l ⌝ }
 {
-    misaligned(a) & vmsa::device(attribute_of(r, l))
+    if vmsa::device(attribute_of(r, l)) {
+        return misaligned(a);
+    }
+    false
 }
 
 fn permission_fails(r: Regime, a: Access, l: Leaf) -> bool
     ensures { λ b. ⌜ b ≡ permissionFails r a l ⌝ }
 {
     let kind = a.kind;
-    !permitted(r, a, l) | kind.is_fetch() & vmsa::device(attribute_of(r, l))
+    if kind.is_fetch() {
+        return !permitted(r, a, l) | vmsa::device(attribute_of(r, l));
+    }
+    !permitted(r, a, l)
 }
 
 // Whether the access sets the Access flag of the leaf.
@@ -123,7 +132,10 @@ pub fn dirty_due(r: Regime, a: Access, l: Leaf) -> bool
     ensures { λ b. ⌜ b ≡ dirtyDue r a l ⌝ }
 {
     let kind = a.kind;
-    kind.writes() & clean(r, l)
+    if kind.writes() {
+        return clean(r, l);
+    }
+    false
 }
 
 // The value with the Access flag set where flag, and AP[2] cleared where dirty.
@@ -159,23 +171,32 @@ fn failing(l: Leaf, reads: u8, kind: FaultKind) -> Verdict
     }
 }
 
-fn passing(r: Regime, a: Access, l: Leaf, reads: u8) -> Verdict
+// The success of an access that steps 6 to 8 let pass.
+pub fn success(r: Regime, a: Access, l: Leaf, reads: u8) -> Success
     requires { ⌜ l .left ≤ 3 ⌝ }
-    ensures { λ v. ⌜ seen v ≡ passingAt r a l reads ⌝ }
+    ensures { λ s. ⌜ view (Answer.Success s) ≡ passingAt r a l reads .result ⌝ }
 {
     let flag = flag_due(r, a, l);
-    let dirty = dirty_due(r, a, l);
-    let success = Success {
+    Success {
         output: PhysAddr(output_of(a, l)),
         attribute: attribute_of(r, l),
         shareability: descriptor::field(l.value, 8, 2) as u8,
         nonglobal: descriptor::bit(l.value, vmsa::NG),
         level: vmsa::level(l.left),
         accessed: flag,
-        dirtied: dirty,
+        dirtied: dirty_due(r, a, l),
         cacheable: descriptor::bit(l.value, vmsa::AF) | flag,
         reads: reads,
-    };
+    }
+}
+
+fn passing(r: Regime, a: Access, l: Leaf, reads: u8) -> Verdict
+    requires { ⌜ l .left ≤ 3 ⌝ }
+    ensures { λ v. ⌜ seen v ≡ passingAt r a l reads ⌝ }
+{
+    let flag = flag_due(r, a, l);
+    let dirty = dirty_due(r, a, l);
+    let success = success(r, a, l, reads);
     Verdict {
         answer: Answer::Success(success),
         update: flag | dirty,
@@ -198,4 +219,18 @@ pub fn judge(r: Regime, a: Access, l: Leaf, reads: u8) -> Verdict
         return failing(l, reads, FaultKind::Permission);
     }
     passing(r, a, l, reads)
+}
+
+// Whether steps 6 to 8 let the access pass, and it does not make the leaf dirty.
+pub fn passes_clean(r: Regime, a: Access, l: Leaf) -> bool
+    requires { ⌜ 0 < a .size ⌝ }
+    ensures { λ b. ⌜ b ≡ passesClean r a l ⌝ }
+{
+    if flag_fails(r, l) {
+        return false;
+    }
+    if alignment_fails(r, a, l) {
+        return false;
+    }
+    !(permission_fails(r, a, l) | dirty_due(r, a, l))
 }

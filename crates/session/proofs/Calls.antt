@@ -1,31 +1,31 @@
 -- The calls of a session from what the code computed: its checks, the walk of a miss, a store.
-use Prim.Native.Nat.{ℕ, zero, suc, _+_, _-_, _%_, _<_, _≤_}
+use Prim.Native.Nat.{ℕ, _+_, _-_, _%_, _<_, _≤_}
 use mathlib.Core.Bool.{Bool, true, false, not, _||_}
-use mathlib.Core.List.{List, [], _∷_, _++_}
+use mathlib.Core.List.{List, _++_}
 use mathlib.Core.Option.{Option, none, some, Option·some-injective}
 use mathlib.Core.Path.{_≡_, refl, sym, ap, subst, _∙_}
 use native.Mathlib.Omega.{arith}
 use lib.Dec.{ltb, eqb}
-use lib.ListN.{length, take, drop}
+use lib.ListN.{length, getD, take, drop}
 use borrow.Author.Tests.{ltb-false, eqb-true, not-false}
 use Rattle.descriptor.specs.Bytes.{put as putDescriptor}
 use Rattle.descriptor.specs.Bits.{pick}
 use Rattle.descriptor.proofs.Tests.{clash, or-false}
 use Rattle.descriptor.proofs.Laws.{put-part}
-use Rattle.vmsa.specs.Limits.{Sized}
 use Rattle.vmsa.specs.Words.{flag, regimeOf}
-use Rattle.vmsa.specs.Answers.{Result, view, cacheableIn, codeOf}
+use Rattle.vmsa.specs.Answers.{view, numberOf, cacheableIn, codeOf}
 use Rattle.vmsa.specs.declared.Regime.{Regime}
+use Rattle.vmsa.specs.declared.RegimeWords.{RegimeWords}
+use Rattle.vmsa.specs.declared.Refusal.{Refusal}
 use Rattle.vmsa.specs.declared.Pool.{Pool}
 use Rattle.vmsa.specs.declared.Access.{Access}
 use Rattle.vmsa.specs.declared.Leaf.{Leaf}
 use Rattle.checks.specs.declared.Checked.{Checked}
 use Rattle.checks.specs.declared.Checked.the-variants.{Accepted, Refused}
-use Rattle.checks.specs.Tests.{memoryPoolBad, storeAddressBad}
-use Rattle.checks.specs.Order.{firstOf, memoryRows, settingRows, accessRows, storeRows, regimeCheck, sessionAccessCheck, sessionStoreCheck}
-use Rattle.checks.proofs.Accept.{Pooled, Shaped, clear, pooled, shaped}
+use Rattle.checks.specs.Tests.{storeAddressBad}
+use Rattle.checks.specs.Order.{memoryRows, settingRows, accessRows, storeRows, regimeCheck, sessionAccessCheck, sessionStoreCheck}
+use Rattle.checks.proofs.Accept.{clear, pooled, shaped}
 use Rattle.lookup.specs.Trace.{End, fault, leaf}
-use Rattle.lookup.specs.Steps.{rangeOf}
 use Rattle.permission.specs.Decision.{decision}
 use Rattle.walk.specs.declared.Walked.{Walked as WalkedStruct}
 use Rattle.walk.specs.declared.Kept.{Kept}
@@ -34,12 +34,14 @@ use Rattle.walk.specs.Walk.{Outcome, outcome, traced, walkPool, keptAt, keptPoo
 use Rattle.walk.proofs.Parts.{put-back, length-part}
 use Rattle.walk.proofs.Ends.{found}
 use Rattle.session.specs.declared.Session.{Session as SessionStruct}
-use Rattle.session.specs.Replies.{done, replyOf}
+use Rattle.session.specs.declared.Entry.{Entry as EntryStruct}
+use Rattle.session.specs.Replies.{Reply, done, refused, replyOf}
 use Rattle.vmsa.specs.declared.FaultKind.the-variants.{Translation}
-use Rattle.session.specs.Model.{Walked, lost, walkFrom, Stepped, Session, andThen, walked, keep, learn, setBy, setCall, accessBy, accessIn, accessCall, storeBy, storeIn, storeCall, put}
+use Rattle.session.specs.Model.{Walked, lost, walkFrom, Session, Entry, andThen, walked, held, keep, learn, noRegime, setBy, setCall, accessHeld, accessBy, accessIn, accessCall, storeBy, storeIn, storeCall, put}
 use Rattle.session.specs.Ours.{usable, offsetOf, located, ours}
-use Rattle.session.specs.View.{sessionView, stepped, walkedView, Low}
-use Rattle.session.proofs.Walking.{first-append, usable-sized, usable-root, put-is, walkedPool, walked-pool}
+use Rattle.session.specs.View.{noEntry, entryView, regimeIn, sessionView, stepped, walkedView, entryAnswer, Low, entryFor, withEntry, Answers, Fills, Stores, checkedReply, entryReply, succeeds}
+use Rattle.session.proofs.Entries.{with-same, hit-outcome}
+use Rattle.session.proofs.Walking.{first-append, usable-sized, usable-root, put-is, walked-pool}
 
 -- ---- the checks of each call
 
@@ -47,15 +49,19 @@ pub set-checked : (s : Session) (m : List ℕ) (r : Regime) → setCall ours s m
 unfolding regimeCheck
 set-checked s m r = ap (setBy ours s m r) (sym (first-append (memoryRows (length m) (r .pool)) (settingRows r)))
 
+-- rows 1, 6 and 7, one after another
+checks-apart : (n : ℕ) (r : Regime) (a : Access) → andThen (ours .memoryCheck r n) (ours .accessCheck a) ≡ sessionAccessCheck n (r .pool) a
+unfolding sessionAccessCheck
+checks-apart n r a = sym (first-append (memoryRows n (r .pool)) (accessRows a))
+
 module _ (s : SessionStruct) (m : List ℕ) (e : flag (s .set) ≡ true) where
   regime-set : sessionView s .regime ≡ some (regimeOf (s .regime))
   regime-set = ap (λ (b : Bool). pick b (some (regimeOf (s .regime))) none) e
 
   pub access-checked : (a : Access) → accessCall ours (sessionView s) m a ≡ accessBy ours (sessionView s) m (regimeOf (s .regime)) a (sessionAccessCheck (length m) (regimeOf (s .regime) .pool) a)
-  unfolding sessionAccessCheck
   access-checked a =
       ap (accessIn ours (sessionView s) m a) regime-set
-      ∙ ap (accessBy ours (sessionView s) m (regimeOf (s .regime)) a) (sym (first-append (memoryRows (length m) (regimeOf (s .regime) .pool)) (accessRows a)))
+      ∙ ap (accessBy ours (sessionView s) m (regimeOf (s .regime)) a) (checks-apart (length m) (regimeOf (s .regime)) a)
 
   pub store-checked : (address value : ℕ)
       → storeCall ours (sessionView s) m address value ≡ storeBy ours (sessionView s) m (regimeOf (s .regime)) address value (sessionStoreCheck (length m) (regimeOf (s .regime) .pool) address)
@@ -168,11 +174,73 @@ pub store-room : (r : Regime) (m : List ℕ) (address k : ℕ) → Storable (len
     → (address - r .pool .address .0) + 8 ≤ length (take k (drop (r .pool .start) m))
 store-room r m address k h q = rw (q, length-part m (r .pool .start) (r .pool .length) (h .fits)) (omega (arith, h .least, h .most))
 
-pub store-done : (s : SessionStruct) (m : List ℕ) → flag (s .set) ≡ true → (r : Regime) → r ≡ regimeOf (s .regime) → (address value : ℕ)
-    → sessionStoreCheck (length m) (r .pool) address ≡ Accepted → (x : List ℕ) → x ≡ put ours r m (offsetOf r address) value
-    → stepped s x done ≡ storeCall ours (sessionView s) m address value
-store-done s m e r q address value z x f =
-    let own = regimeOf (s .regime) in
-    let z2 : sessionStoreCheck (length m) (own .pool) address ≡ Accepted = subst (λ (y : Regime). sessionStoreCheck (length m) (y .pool) address ≡ Accepted) q z in
-    let f2 : x ≡ put ours own m (offsetOf own address) value = subst (λ (y : Regime). x ≡ put ours y m (offsetOf y address) value) q f in
-    ap (λ (y : List ℕ). stepped s y done) f2 ∙ sym (store-checked s m e address value ∙ ap (storeBy ours (sessionView s) m own address value) z2)
+module _ (regime : RegimeWords) (set address value : ℕ) (m : List ℕ) where
+  pub stores-unset : flag set ≡ false → Stores regime set address value m m (refused noRegime)
+  stores-unset f s q1 q2 = sym (store-unset s m (ap flag q2 ∙ f) address value)
+
+  module _ (f : flag set ≡ true) (r : Regime) (q : r ≡ regimeOf regime) where
+    store-by : (s : SessionStruct) → s .regime ≡ regime → s .set ≡ set → (x : Checked) → sessionStoreCheck (length m) (r .pool) address ≡ x
+        → storeCall ours (sessionView s) m address value ≡ storeBy ours (sessionView s) m r address value x
+    store-by s q1 q2 x h =
+        let own : regimeOf (s .regime) ≡ r = ap regimeOf q1 ∙ sym q in
+        store-checked s m (ap flag q2 ∙ f) address value ∙ ap (λ (y : Regime). storeBy ours (sessionView s) m y address value (sessionStoreCheck (length m) (y .pool) address)) own
+        ∙ ap (storeBy ours (sessionView s) m r address value) h
+
+    pub stores-refused : (x : Refusal) → sessionStoreCheck (length m) (r .pool) address ≡ Refused x → Stores regime set address value m m (refused (numberOf x))
+    stores-refused x h s q1 q2 = sym (store-by s q1 q2 (Refused x) h)
+
+    pub stores-accepted : sessionStoreCheck (length m) (r .pool) address ≡ Accepted → (m′ : List ℕ) → m′ ≡ put ours r m (offsetOf r address) value → Stores regime set address value m m′ done
+    stores-accepted h m′ e s q1 q2 = ap (λ (l : List ℕ). stepped s l done) e ∙ sym (store-by s q1 q2 Accepted h)
+
+-- ---- an access by its page's entry
+
+module _ (regime : RegimeWords) (set : ℕ) (e : EntryStruct) (a : Access) (m : List ℕ) where
+  pub fills-unset : flag set ≡ false → Fills regime set e a m e m (refused noRegime)
+  fills-unset f s q1 q2 q3 =
+      ap (λ (t : SessionStruct). stepped t m (refused noRegime)) (with-same s a e q3) ∙ sym (access-unset s m (ap flag q2 ∙ f) a)
+
+  module _ (f : flag set ≡ true) where
+    checked : (s : SessionStruct) → s .regime ≡ regime → s .set ≡ set → (x : Checked) → sessionAccessCheck (length m) (regimeOf regime .pool) a ≡ x
+        → accessCall ours (sessionView s) m a ≡ accessBy ours (sessionView s) m (regimeOf (s .regime)) a x
+    checked s q1 q2 x h =
+        access-checked s m (ap flag q2 ∙ f) a
+        ∙ ap (accessBy ours (sessionView s) m (regimeOf (s .regime)) a) (ap (λ (w : RegimeWords). sessionAccessCheck (length m) (regimeOf w .pool) a) q1 ∙ h)
+
+    pub fills-refused : (x : Refusal) → sessionAccessCheck (length m) (regimeOf regime .pool) a ≡ Refused x → Fills regime set e a m e m (refused (numberOf x))
+    fills-refused x h s q1 q2 q3 =
+        ap (λ (t : SessionStruct). stepped t m (refused (numberOf x))) (with-same s a e q3) ∙ sym (checked s q1 q2 (Refused x) h)
+
+    pub fills-accepted : sessionAccessCheck (length m) (regimeOf regime .pool) a ≡ Accepted → (e′ : EntryStruct) (m′ : List ℕ) (reply : Reply) → Answers (regimeOf regime) e a m e′ m′ reply
+        → Fills regime set e a m e′ m′ reply
+    fills-accepted h e′ m′ reply w s q1 q2 q3 =
+        subst (λ (x : RegimeWords). stepped (withEntry s (entryFor a) e′) m′ reply ≡ accessHeld ours (sessionView s) m (regimeOf x) a (held (sessionView s .entries) (ours .page (regimeOf x) a))) (sym q1) (w s q3)
+        ∙ sym (checked s q1 q2 Accepted h)
+
+-- a hit is the call: of a reply that the entry gives
+module _ (s : SessionStruct) (m : List ℕ) (a : Access) where
+  reply-by : (g : Option Regime) → sessionView s .regime ≡ g → (reply : Reply) → some reply ≡ entryReply (length m) a (entryView (getD (s .entries) (entryFor a) noEntry)) g
+      → stepped s m reply ≡ accessCall ours (sessionView s) m a
+  reply-by none q reply h = clash (cc)
+  reply-by (some r) q reply h = by (sessionAccessCheck (length m) (r .pool) a) refl h
+    where
+      by : (x : Checked) → sessionAccessCheck (length m) (r .pool) a ≡ x → some reply ≡ checkedReply x (entryAnswer ours r a (entryView (getD (s .entries) (entryFor a) noEntry)))
+          → stepped s m reply ≡ accessCall ours (sessionView s) m a
+      by (Refused x) e h = clash (cc)
+      by Accepted e h =
+          hit-outcome s m r a reply h
+          ∙ sym (ap (accessIn ours (sessionView s) m a) q ∙ ap (accessBy ours (sessionView s) m r a) (checks-apart (length m) r a ∙ e))
+
+  pub reply-is-call : (reply : Reply) → some reply ≡ entryReply (length m) a (entryView (getD (s .entries) (entryFor a) noEntry)) (regimeIn (s .regime) (s .set)) → stepped s m reply ≡ accessCall ours (sessionView s) m a
+  reply-is-call reply h = reply-by (regimeIn (s .regime) (s .set)) refl reply h
+
+-- where it is a success, the entry's reply is the entry's answer
+pub hit-reply : (n : ℕ) (a : Access) (e : Entry) (regime : RegimeWords) (set : ℕ) → succeeds (entryReply n a e (regimeIn regime set)) ≡ true → entryReply n a e (regimeIn regime set) ≡ entryAnswer ours (regimeOf regime) a e
+hit-reply n a e regime set t = by (flag set) t
+  where
+    accepted : (x : Checked) → succeeds (checkedReply x (entryAnswer ours (regimeOf regime) a e)) ≡ true → checkedReply x (entryAnswer ours (regimeOf regime) a e) ≡ entryAnswer ours (regimeOf regime) a e
+    accepted Accepted t = refl
+    accepted (Refused x) t = clash (cc)
+
+    by : (b : Bool) → succeeds (entryReply n a e (pick b (some (regimeOf regime)) none)) ≡ true → entryReply n a e (pick b (some (regimeOf regime)) none) ≡ entryAnswer ours (regimeOf regime) a e
+    by true t = accepted (sessionAccessCheck n (regimeOf regime .pool) a) t
+    by false t = clash (cc)

@@ -1,10 +1,9 @@
 -- Entries of the code in the model's values: what an entry holds and answers, and one entry of a list replaced.
-use Prim.Native.Nat.{ℕ, zero, suc, _%_, _≤_}
+use Prim.Native.Nat.{ℕ, zero, suc, _≤_}
 use mathlib.Core.Bool.{Bool, true, false, _&&_}
 use mathlib.Core.List.{List, [], _∷_, map}
 use mathlib.Core.Option.{Option, none, some, Option·some-injective}
 use mathlib.Core.Path.{_≡_, refl, sym, ap, subst, _∙_}
-use native.Mathlib.Omega.{arith}
 use lib.Dec.{leb, eqb}
 use lib.ListN.{getD, set, List·getD-map}
 use borrow.Author.Tests.{eq-eqb, ne-eqb, leb-true, le-leb}
@@ -17,10 +16,12 @@ use Rattle.vmsa.specs.declared.Access.{Access}
 use Rattle.vmsa.specs.declared.Leaf.{Leaf}
 use Rattle.session.specs.declared.Entry.{Entry as EntryStruct}
 use Rattle.session.specs.declared.Session.{Session as SessionStruct}
-use Rattle.session.specs.Replies.{Reply, answered}
-use Rattle.session.specs.Model.{Entry, empty, holds, heldIn, held, entryOf, Stepped, learn, recall, accessHeld, walked}
+use Rattle.permission.specs.Decision.{passing}
+use Rattle.session.specs.Replies.{Reply, answered, replyOf}
+use Rattle.session.specs.Model.{Entry, Session, empty, holds, heldIn, held, keep, entryOf, learn, accessHeld, walked}
 use Rattle.session.specs.Ours.{judged, ours}
-use Rattle.session.specs.View.{entryView, noEntry, sessionView, stepped, answerOf, entryAnswer}
+use Rattle.session.specs.View.{entryView, noEntry, sessionView, stepped, answerOf, entryAnswer, entryFor, withEntry, keptIn, succeeds}
+use Rattle.session.proofs.Deciding.{clean-decision, passed-decision, passed-reply}
 
 -- ---- what an entry holds of a page
 
@@ -95,18 +96,87 @@ module _ (s : SessionStruct) (m : List ℕ) (r : Regime) (a : Access) where
   hit-outcome reply q =
       hit-by (held (sessionView s .entries) (ours .page r a)) reply (q ∙ ap (λ (e : Entry). answerOf ours r a (heldIn e (ours .page r a))) (entry-view (ours .page r a)))
 
-  pub walk-outcome : none ≡ entryAnswer ours r a (entryView (getD (s .entries) (entryOf (ours .page r a)) noEntry))
+  walk-outcome : none ≡ entryAnswer ours r a (entryView (getD (s .entries) (entryOf (ours .page r a)) noEntry))
       → accessHeld ours (sessionView s) m r a (held (sessionView s .entries) (ours .page r a)) ≡ learn ours (sessionView s) (ours .page r a) (walked ours r m a)
   walk-outcome q =
       walk-by (held (sessionView s .entries) (ours .page r a)) (q ∙ ap (λ (e : Entry). answerOf ours r a (heldIn e (ours .page r a))) (entry-view (ours .page r a)))
 
 -- ---- one entry replaced
 
+set-same : {A : Type 0} (l : List A) (i : ℕ) (d : A) → set l i (getD l i d) ≡ l
+set-same [] i d = refl
+set-same (x ∷ l) zero d = refl
+set-same (x ∷ l) (suc i) d = ap (λ (t : List _). x ∷ t) (set-same l i d)
+
 map-set : (l : List EntryStruct) (i : ℕ) (e : EntryStruct) → map entryView (set l i e) ≡ set (map entryView l) i (entryView e)
 map-set [] i e = refl
 map-set (x ∷ l) zero e = refl
 map-set (x ∷ l) (suc i) e = ap (λ (t : List Entry). entryView x ∷ t) (map-set l i e)
 
-pub kept-entry : (l : List EntryStruct) (page : ℕ) (leaf : Leaf) → leaf .left ≤ 3
-    → map entryView (set l (entryOf page) (record { page = page; value = leaf .value; left = leaf .left; held = 1 })) ≡ set (map entryView l) (entryOf page) (holds page leaf)
-kept-entry l page leaf h = map-set l (entryOf page) (record { page = page; value = leaf .value; left = leaf .left; held = 1 }) ∙ rw (le-leb (leaf .left) 3 h)
+pub kept-view : (page : ℕ) (leaf : Leaf) → leaf .left ≤ 3 → entryView (record { page = page; value = leaf .value; left = leaf .left; held = 1 }) ≡ holds page leaf
+kept-view page leaf h = rw (le-leb (leaf .left) 3 h)
+
+keep-at : (l : List Entry) (page : ℕ) (x : Entry) → getD l (entryOf page) empty ≡ x → (k : Option Leaf) → set l (entryOf page) (keptIn x page k) ≡ keep l page k
+keep-at l page x q none = subst (λ (y : Entry). set l (entryOf page) y ≡ l) q (set-same l (entryOf page) empty)
+keep-at l page x q (some leaf) = refl
+
+module _ (s : SessionStruct) (a : Access) (e : EntryStruct) (q : getD (s .entries) (entryFor a) noEntry ≡ e) where
+  -- an entry put where it lies already
+  pub with-same : withEntry s (entryFor a) e ≡ s
+  with-same =
+      ap (λ (l : List EntryStruct). let t : SessionStruct = record { regime = s .regime; entries = l; set = s .set } in t) (subst (λ (x : EntryStruct). set (s .entries) (entryFor a) x ≡ s .entries) q (set-same (s .entries) (entryFor a) noEntry))
+
+  -- a leaf kept in the page's entry
+  pub with-kept : (r : Regime) (x : EntryStruct) (k : Option Leaf) → entryView x ≡ keptIn (entryView e) (ours .page r a) k
+      → sessionView (withEntry s (entryFor a) x) ≡ record { regime = sessionView s .regime; entries = keep (sessionView s .entries) (ours .page r a) k }
+  with-kept r x k h =
+      let held : getD (sessionView s .entries) (entryFor a) empty ≡ entryView e = sym (entry-view s [] r a (ours .page r a)) ∙ ap entryView q in
+      ap (λ (l : List Entry). let t : Session = record { regime = sessionView s .regime; entries = l } in t) (map-set (s .entries) (entryFor a) x ∙ ap (set (sessionView s .entries) (entryFor a)) h ∙ keep-at (sessionView s .entries) (ours .page r a) (entryView e) held k)
+
+  -- past the checks, by what the entry answers
+  pub hit-leaves : (m : List ℕ) (r : Regime) (reply : Reply) → some reply ≡ entryAnswer ours r a (entryView e)
+      → stepped (withEntry s (entryFor a) e) m reply ≡ accessHeld ours (sessionView s) m r a (held (sessionView s .entries) (ours .page r a))
+  hit-leaves m r reply h =
+      ap (λ (t : SessionStruct). stepped t m reply) with-same ∙ hit-outcome s m r a reply (h ∙ ap (λ (x : EntryStruct). entryAnswer ours r a (entryView x)) (sym q))
+
+  pub walk-leaves : (m : List ℕ) (r : Regime) → none ≡ entryAnswer ours r a (entryView e)
+      → accessHeld ours (sessionView s) m r a (held (sessionView s .entries) (ours .page r a)) ≡ learn ours (sessionView s) (ours .page r a) (walked ours r m a)
+  walk-leaves m r h = walk-outcome s m r a (h ∙ ap (λ (x : EntryStruct). entryAnswer ours r a (entryView x)) (sym q))
+
+-- ---- an entry that answers with a success
+
+module _ (r : Regime) (a : Access) (e : EntryStruct) where
+  hit-leaf : (h : Leaf) → succeeds (pick (dirtiedIn (judged r h a)) none (some (answered (judged r h a) 0))) ≡ true
+      → some (replyOf (passing r a h 0 .result)) ≡ pick (dirtiedIn (judged r h a)) none (some (answered (judged r h a) 0))
+  hit-leaf h t = by (dirtiedIn (judged r h a)) refl t
+    where
+      by : (b : Bool) → dirtiedIn (judged r h a) ≡ b → succeeds (pick b none (some (answered (judged r h a) 0))) ≡ true → some (replyOf (passing r a h 0 .result)) ≡ pick b none (some (answered (judged r h a) 0))
+      by true q t = clash (cc)
+      by false q t =
+          ap (λ (o : Reply). some o) (passed-reply r a h 0 (passed-decision r a h 0 (clean-decision r a h 0 ∙ rw q t)))
+
+  hit-held : (x : Option Leaf) → (h : Leaf) → ((l : Leaf) → x ≡ some l → l ≡ h) → succeeds (answerOf ours r a x) ≡ true → some (replyOf (passing r a h 0 .result)) ≡ answerOf ours r a x
+  hit-held none h q t = clash (cc)
+  hit-held (some l) h q t = subst (λ (y : Leaf). some (replyOf (passing r a y 0 .result)) ≡ answerOf ours r a (some l)) (q l refl) (hit-leaf l t)
+
+  -- the leaf that an entry holds is its own, and stands at a level
+  own-leaf : (l : Leaf) → heldIn (entryView e) (ours .page r a) ≡ some l → l ≡ leafIn e
+  own-leaf l q = by (stands e) q
+    where
+      same : (b : Bool) → pick b (some (leafIn e)) none ≡ some l → l ≡ leafIn e
+      same true q = sym (Option·some-injective (leafIn e) l q)
+      same false q = clash (cc)
+
+      by : (b : Bool) → heldIn (pick b (holds (e .page) (leafIn e)) empty) (ours .page r a) ≡ some l → l ≡ leafIn e
+      by true q = same (eqb (e .page) (ours .page r a)) q
+      by false q = clash (cc)
+
+  hit-low-by : (x : Option Leaf) → heldIn (entryView e) (ours .page r a) ≡ x → succeeds (answerOf ours r a x) ≡ true → e .left ≤ 3
+  hit-low-by none q t = clash (cc)
+  hit-low-by (some l) q t = subst (λ (y : Leaf). y .left ≤ 3) (own-leaf l q) (held-low e (ours .page r a) l q)
+
+  pub hit-low : succeeds (entryAnswer ours r a (entryView e)) ≡ true → e .left ≤ 3
+  hit-low t = hit-low-by (heldIn (entryView e) (ours .page r a)) refl t
+
+  pub hit-success : succeeds (entryAnswer ours r a (entryView e)) ≡ true → some (replyOf (passing r a (leafIn e) 0 .result)) ≡ entryAnswer ours r a (entryView e)
+  hit-success t = hit-held (heldIn (entryView e) (ours .page r a)) (leafIn e) own-leaf t

@@ -1,14 +1,16 @@
 // The session: 64 TLB entries, and the four calls. Each takes the session by value and hands it back.
 ghost use mathlib.Core.Path.{_≡_};
 ghost use mathlib.Core.List.{List};
+ghost use mathlib.Core.Bool.{true};
+ghost use mathlib.Core.Option.{some};
 ghost use Prim.Native.Nat.{ℕ, _+_, _≤_, _<_};
-ghost use lib.ListN.{length, getD};
+ghost use lib.ListN.{length};
 ghost use Rattle.vmsa.specs.Answers.{view};
 ghost use Rattle.walk.specs.Walk.{keptLeaf};
 ghost use Rattle.session.specs.Replies.{done, replyOf, replyTo};
-ghost use Rattle.session.specs.Model.{fresh, entryOf, heldIn, keep as keepIn, walked as walkedOf, accessHeld, held as heldOf, setCall, accessCall, storeCall, dropCall};
+ghost use Rattle.session.specs.Model.{fresh, entryCount, heldIn, walked as walkedOf, setCall, accessCall, storeCall, dropCall};
 ghost use Rattle.session.specs.Ours.{usable as usableOf, ours};
-ghost use Rattle.session.specs.View.{noEntry, entryView, sessionView, stepped, heldLeaf, entryAnswer, askedReply, Low, walkedView};
+ghost use Rattle.session.specs.View.{noEntry, entryView, regimeIn, sessionView, stepped, heldLeaf, entryAnswer, askedReply, Low, walkedView, entryFor, keptIn, Answers, Fills, Stores, entryReply, succeeds};
 use checks::Checked;
 use vmsa::Access;
 use vmsa::Answer;
@@ -19,6 +21,7 @@ use vmsa::PhysAddr;
 use vmsa::Refusal;
 use vmsa::Regime;
 use vmsa::RegimeWords;
+use vmsa::Success;
 use walk::Kept;
 
 // How many TLB entries a session has; specs/Model.antt has the same number.
@@ -62,6 +65,12 @@ pub struct Changed {
 // What an access hands back.
 pub struct Accessed {
     pub session: Session,
+    pub answer: Answer,
+}
+
+// What an access leaves of its page's entry, and its answer.
+pub struct Filled {
+    pub entry: Entry,
     pub answer: Answer,
 }
 
@@ -110,6 +119,46 @@ impl Entry {
         }
         Asked::Answered(answer)
     }
+
+    // Whether it answers an access with a success.
+    pub fn hits(self, r: Regime, a: Access) -> bool
+        requires { ⌜ 0 < a .size ⌝ }
+        ensures { λ b. ⌜ b ≡ succeeds (entryAnswer ours r a (entryView self)) ⌝ }
+    {
+        let page = vmsa::page_of(vmsa::PAGE_BITS, a.address);
+        let Held::Leaf(leaf) = self.held_of(page) else {
+            return false;
+        };
+        permission::passes_clean(r, a, leaf)
+    }
+
+    // The success that it answers with, where it does.
+    pub fn success(self, r: Regime, a: Access) -> Success
+        requires { ⌜ succeeds (entryAnswer ours r a (entryView self)) ≡ true ⌝ }
+        ensures { λ s. ⌜ some (replyOf (view (Answer.Success s))) ≡ entryAnswer ours r a (entryView self) ⌝ }
+    {
+        let leaf = Leaf {
+            value: self.value,
+            left: self.left,
+        };
+        permission::success(r, a, leaf, 0)
+    }
+
+    // The entry with a leaf that may be remembered of a page.
+    fn keep(self, page: u64, kept: Kept) -> Self
+        requires { ⌜ Low kept ⌝ }
+        ensures { λ e. ⌜ entryView e ≡ keptIn (entryView self) page (keptLeaf kept) ⌝ }
+    {
+        let Kept::Leaf(leaf) = kept else {
+            return self;
+        };
+        Entry {
+            page: page,
+            value: leaf.value,
+            left: leaf.left,
+            held: 1,
+        }
+    }
 }
 
 // Whether rows 3 and 4 let a regime through.
@@ -137,6 +186,102 @@ pub fn miss(memory: &mut [u8], r: Regime, a: Access) -> walk::Walked
             reads: 0,
         }),
         kept: Kept::Nothing,
+    }
+}
+
+// The number of the entry of an access's page.
+pub fn entry_of(a: Access) -> usize
+    ensures { λ i. ⌜ (i ≡ entryFor a) × (i < entryCount) ⌝ }
+{
+    (vmsa::page_of(vmsa::PAGE_BITS, a.address) as usize) % ENTRIES
+}
+
+// An access past its checks: its page's entry answers, or else the walk, whose leaf is kept.
+fn answer_entry(entry: Entry, memory: &mut [u8], r: Regime, a: Access) -> Filled
+    requires { ⌜ (r .pool .start + r .pool .length ≤ length (now memory)) × (0 < a .size) ⌝ }
+    ensures { λ x. ⌜ Answers r entry a (now (memory .entry)) (x .entry) (now (memory .exit)) (replyOf (view (x .answer))) ⌝ }
+{
+    match entry.ask(r, a) {
+        Asked::Answered(answer) => Filled {
+            entry: entry,
+            answer: answer,
+        },
+        Asked::Walk => {
+            let missed = miss(memory, r, a);
+            let kept = missed.kept;
+            let answer = missed.answer;
+            let page = vmsa::page_of(vmsa::PAGE_BITS, a.address);
+            Filled {
+                entry: entry.keep(page, kept),
+                answer: answer,
+            }
+        }
+    }
+}
+
+// An access in every session that has this regime, and this entry for the access's page.
+pub fn access_entry(
+    regime: RegimeWords,
+    set: u8,
+    entry: Entry,
+    memory: &mut [u8],
+    a: Access,
+) -> Filled
+    ensures { λ x. ⌜ Fills regime set entry a (now (memory .entry)) (x .entry) (now (memory .exit)) (replyOf (view (x .answer))) ⌝ }
+{
+    if set == 0 {
+        return Filled {
+            entry: entry,
+            answer: Answer::Refused(Refusal::NoRegime),
+        };
+    }
+    let r = regime.regime();
+    match checks::check_session_access(memory.len(), r.pool, a) {
+        Checked::Refused(refusal) => Filled {
+            entry: entry,
+            answer: Answer::Refused(refusal),
+        },
+        Checked::Accepted => answer_entry(entry, memory, r, a),
+    }
+}
+
+// Whether an access in such a session, over n bytes of memory, is answered by the entry with a success.
+pub fn hits(regime: RegimeWords, set: u8, entry: Entry, n: usize, a: Access) -> bool
+    ensures { λ b. ⌜ b ≡ succeeds (entryReply n a (entryView entry) (regimeIn regime set)) ⌝ }
+{
+    if set == 0 {
+        return false;
+    }
+    let r = regime.regime();
+    match checks::check_session_access(n, r.pool, a) {
+        Checked::Refused(_) => false,
+        Checked::Accepted => entry.hits(r, a),
+    }
+}
+
+// A store in every session that has this regime, which stays as it was: refused with 9, 1 or 8, or else done.
+pub fn store_in(
+    regime: RegimeWords,
+    set: u8,
+    memory: &mut [u8],
+    address: PhysAddr,
+    value: u64,
+) -> Checked
+    ensures { λ x. ⌜ Stores regime set (address .0) value (now (memory .entry)) (now (memory .exit)) (replyTo x) ⌝ }
+{
+    if set == 0 {
+        return Checked::Refused(Refusal::NoRegime);
+    }
+    let pool = regime.regime().pool;
+    match checks::check_session_store(memory.len(), pool, address) {
+        Checked::Refused(refusal) => Checked::Refused(refusal),
+        Checked::Accepted => {
+            let start = pool.start;
+            let end = start + pool.length;
+            let offset = (address.0 - pool.address.0) as usize;
+            descriptor::store(&mut memory[start..end], offset, value);
+            Checked::Accepted
+        }
     }
 }
 
@@ -187,74 +332,19 @@ impl Session {
         self
     }
 
-    // The entry of a page.
-    pub fn entry_of(self, page: u64) -> Entry
-        ensures { λ e. ⌜ e ≡ getD (self .entries) (entryOf page) noEntry ⌝ }
-    {
-        let i = (page as usize) % ENTRIES;
-        let entries = self.entries;
-        entries[i]
-    }
-
-    // The session with a leaf that may be remembered in its page's entry.
-    fn keep(mut self, page: u64, kept: Kept) -> Self
-        requires { ⌜ Low kept ⌝ }
-        ensures { λ s. ⌜ sessionView s ≡ record { regime = sessionView self .regime; entries = keepIn (sessionView self .entries) page (keptLeaf kept) } ⌝ }
-    {
-        let Kept::Leaf(leaf) = kept else {
-            return self;
-        };
-        let i = (page as usize) % ENTRIES;
-        self.entries[i] = Entry {
-            page: page,
-            value: leaf.value,
-            left: leaf.left,
-            held: 1,
-        };
-        self
-    }
-
-    // An access past its checks: its page's entry answers, or else the walk, whose leaf is kept.
-    fn answer(self, memory: &mut [u8], r: Regime, a: Access) -> Accessed
-        requires { ⌜ (r .pool .start + r .pool .length ≤ length (now memory)) × (0 < a .size) ⌝ }
-        ensures { λ x. ⌜ stepped (x .session) (now (memory .exit)) (replyOf (view (x .answer))) ≡ accessHeld ours (sessionView self) (now (memory .entry)) r a (heldOf (sessionView self .entries) (ours .page r a)) ⌝ }
-    {
-        let page = vmsa::page_of(vmsa::PAGE_BITS, a.address);
-        match self.entry_of(page).ask(r, a) {
-            Asked::Answered(answer) => Accessed {
-                session: self,
-                answer: answer,
-            },
-            Asked::Walk => {
-                let missed = miss(memory, r, a);
-                let kept = missed.kept;
-                let answer = missed.answer;
-                let session = self.keep(page, kept);
-                Accessed {
-                    session: session,
-                    answer: answer,
-                }
-            }
-        }
-    }
-
     // An access: refused with 9, 1, 6 or 7, or else answered.
-    pub fn access(self, memory: &mut [u8], a: Access) -> Accessed
+    pub fn access(mut self, memory: &mut [u8], a: Access) -> Accessed
         ensures { λ x. ⌜ stepped (x .session) (now (memory .exit)) (replyOf (view (x .answer))) ≡ accessCall ours (sessionView self) (now (memory .entry)) a ⌝ }
     {
-        if self.set == 0 {
-            return Accessed {
-                session: self,
-                answer: Answer::Refused(Refusal::NoRegime),
-            };
-        }
-        let r = self.regime.regime();
-        match checks::check_session_access(memory.len(), r.pool, a) {
-            Checked::Refused(refusal) => Accessed {
-                session: self,
-                answer: Answer::Refused(refusal),
-            },
-            Checked::Accepted => self.answer(memory, r, a),
+        let i = entry_of(a);
+        let entries = self.entries;
+        let filled = access_entry(self.regime, self.set, entries[i], memory, a);
+        let entry = filled.entry;
+        let answer = filled.answer;
+        self.entries[i] = entry;
+        Accessed {
+            session: self,
+            answer: answer,
         }
     }
 
@@ -262,28 +352,10 @@ impl Session {
     pub fn store(self, memory: &mut [u8], address: PhysAddr, value: u64) -> Changed
         ensures { λ x. ⌜ stepped (x .session) (now (memory .exit)) (replyTo (x .reply)) ≡ storeCall ours (sessionView self) (now (memory .entry)) (address .0) value ⌝ }
     {
-        if self.set == 0 {
-            return Changed {
-                session: self,
-                reply: Checked::Refused(Refusal::NoRegime),
-            };
-        }
-        let pool = self.regime.regime().pool;
-        match checks::check_session_store(memory.len(), pool, address) {
-            Checked::Refused(refusal) => Changed {
-                session: self,
-                reply: Checked::Refused(refusal),
-            },
-            Checked::Accepted => {
-                let start = pool.start;
-                let end = start + pool.length;
-                let offset = (address.0 - pool.address.0) as usize;
-                descriptor::store(&mut memory[start..end], offset, value);
-                Changed {
-                    session: self,
-                    reply: Checked::Accepted,
-                }
-            }
+        let reply = store_in(self.regime, self.set, memory, address, value);
+        Changed {
+            session: self,
+            reply: reply,
         }
     }
 }

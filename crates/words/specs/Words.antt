@@ -1,21 +1,28 @@
 -- An access and an answer as structs of numbers, and the calls of a monitor in them.
 use Prim.Native.Nat.{ℕ}
 use mathlib.Core.List.{List}
+use mathlib.Core.Option.{Option, none, some}
+use mathlib.Core.Path.{_≡_}
 use lib.Dec.{eqb}
+use lib.ListN.{length, getD}
 use Rattle.descriptor.specs.Bits.{pick}
-use Rattle.vmsa.specs.Words.{flag, flagByte}
+use Rattle.vmsa.specs.Words.{flag, flagByte, regimeOf}
 use Rattle.vmsa.specs.Answers.{Result, success, fault, refused}
 use Rattle.vmsa.specs.declared.Access.{Access}
 use Rattle.vmsa.specs.declared.AccessKind.{AccessKind}
 use Rattle.vmsa.specs.declared.AccessKind.the-variants.{Read, Write, Update, Fetch, ProbeRead, ProbeWrite}
 use Rattle.vmsa.specs.declared.Regime.{Regime}
+use Rattle.vmsa.specs.declared.RegimeWords.{RegimeWords}
 use Rattle.walk.specs.Walk.{walk}
 use Rattle.session.specs.declared.Session.{Session as SessionStruct}
 use Rattle.session.specs.Replies.{Reply, done, refused as refusedWith, answered}
-use Rattle.session.specs.Model.{Session, Stepped}
-use Rattle.session.specs.View.{sessionView}
+use Rattle.session.specs.declared.Entry.{Entry as EntryStruct}
+use Rattle.session.specs.Model.{Session, Stepped, setCall, accessCall, storeCall}
+use Rattle.session.specs.Ours.{ours}
+use Rattle.session.specs.View.{noEntry, sessionView, setTo, entryFor, withEntry, succeeds}
 use Rattle.words.specs.declared.AccessWords.{AccessWords}
 use Rattle.words.specs.declared.AnswerWords.{AnswerWords}
+use Rattle.words.specs.declared.Hit.{Hit}
 
 -- 0 read, 1 write, 2 update, 3 fetch, 4 probe-read, 5 and above probe-write
 abbrev pub kindOf : ℕ → AccessKind
@@ -128,3 +135,30 @@ accessed s memory answer = record { session = sessionView s; memory = memory; re
 
 abbrev pub accessedBy : Stepped → Left AnswerWords
 accessedBy x = record { session = x .session; memory = x .memory; reply = replyWords (x .reply) }
+
+-- ---- a set regime
+
+-- whatever session, over n bytes of memory: refused, it stays as it was; with 0 it is set to the regime r
+abbrev pub SetsWords : RegimeWords → ℕ → ℕ → RegimeWords → Type 0
+SetsWords regime n refusal r = (s : SessionStruct) (m : List ℕ) → length m ≡ n → changed (pick (eqb refusal 0) (setTo r) s) m refusal ≡ changedBy (setCall ours (sessionView s) m (regimeOf regime))
+
+-- ---- a store
+
+-- whatever session has this regime, it stays as it was
+abbrev pub StoresWords : RegimeWords → ℕ → ℕ → ℕ → List ℕ → List ℕ → ℕ → Type 0
+StoresWords regime set address value m m′ refusal = (s : SessionStruct) → s .regime ≡ regime → s .set ≡ set → changed s m′ refusal ≡ changedBy (storeCall ours (sessionView s) m address value)
+
+-- ---- an access by the one entry that it can change
+
+-- whatever session has this regime, and the entry e for the page, the call leaves e′ there, and all else of the session as it was
+abbrev pub FillsWords : RegimeWords → ℕ → EntryStruct → Access → List ℕ → EntryStruct → List ℕ → AnswerWords → Type 0
+FillsWords regime set e a m e′ m′ answer =
+    (s : SessionStruct) → s .regime ≡ regime → s .set ≡ set → getD (s .entries) (entryFor a) noEntry ≡ e → accessed (withEntry s (entryFor a) e′) m′ answer ≡ accessedBy (accessCall ours (sessionView s) m a)
+
+-- an entry's reply that is a success, as numbers; elsewhere there is no hit
+abbrev pub hitWords : Option Reply → AnswerWords
+hitWords none = wordsOf (refused 0)
+hitWords (some reply) = replyWords reply
+
+unfoldable pub hitOf : Option Reply → Hit
+hitOf x = record { hit = succeeds x; answer = pick (succeeds x) (hitWords x) (wordsOf (refused 0)) }

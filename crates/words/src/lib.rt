@@ -1,14 +1,14 @@
 // An access and an answer as structs of numbers, and the calls of a monitor over them.
 ghost use mathlib.Core.Path.{_≡_};
-ghost use Rattle.vmsa.specs.Answers.{view};
+ghost use Prim.Native.Nat.{_<_};
+ghost use Rattle.vmsa.specs.Answers.{refused, view};
 ghost use Rattle.vmsa.specs.Words.{regimeOf};
 ghost use Rattle.session.specs.Replies.{replyTo};
-ghost use Rattle.session.specs.Model.{setCall, accessCall, storeCall};
-ghost use Rattle.session.specs.Ours.{ours};
-ghost use Rattle.session.specs.View.{sessionView};
-ghost use Rattle.words.specs.Words.{kindOf, accessOf, wordsOf, told, walkTold, refusalByte, changed, changedBy, accessed, accessedBy};
+ghost use Rattle.session.specs.Model.{entryCount};
+ghost use Rattle.session.specs.View.{entryView, regimeIn, entryFor, entryReply};
+ghost use Rattle.words.specs.Words.{kindOf, accessOf, wordsOf, told, walkTold, refusalByte, hitOf, SetsWords, FillsWords, StoresWords};
 use checks::Checked;
-use session::Session;
+use session::Entry;
 use vmsa::Access;
 use vmsa::AccessKind;
 use vmsa::Answer;
@@ -45,17 +45,21 @@ pub struct AnswerWords {
     pub reads: u8,
 }
 
-// What a set regime or a store hands back: the session, and 0 or the number of the refusal.
-#[repr(C)]
-pub struct ChangedWords {
-    pub session: Session,
+// A regime to be set: 0 or the number of its refusal, and the regime as a session holds it.
+pub struct SetWords {
     pub refusal: u8,
+    pub regime: RegimeWords,
 }
 
-// What an access hands back.
-#[repr(C)]
-pub struct AccessedWords {
-    pub session: Session,
+// What an access leaves of its page's entry, and its answer.
+pub struct FilledWords {
+    pub entry: Entry,
+    pub answer: AnswerWords,
+}
+
+// Whether an access is answered by its page's entry with a success, and the answer.
+pub struct Hit {
+    pub hit: bool,
     pub answer: AnswerWords,
 }
 
@@ -179,43 +183,84 @@ fn refusal_byte(x: Checked) -> u8
     }
 }
 
-// Sets the regime of a session: checks 1 to 5.
-pub fn set_words(session: Session, memory: &[u8], regime: RegimeWords) -> ChangedWords
-    ensures { λ x. ⌜ changed (x .session) (now (memory .entry)) (x .refusal) ≡ changedBy (setCall ours (sessionView session) (now (memory .entry)) (regimeOf regime)) ⌝ }
+// A set regime in every session, over n bytes of memory: 0, or the number of the refusal, 1 to 5.
+pub fn set_words(n: usize, regime: RegimeWords) -> SetWords
+    ensures { λ x. ⌜ SetsWords regime n (x .refusal) (x .regime) ⌝ }
 {
     let r = regime.regime();
-    let x = session.set_regime(memory, r);
-    let after = x.session;
-    let reply = x.reply;
-    ChangedWords {
-        session: after,
-        refusal: refusal_byte(reply),
+    SetWords {
+        refusal: refusal_byte(checks::check_regime(n, r)),
+        regime: RegimeWords::of(r),
     }
 }
 
-// An access in a session: 9, 1, 6, 7.
-pub fn access_words(session: Session, memory: &mut [u8], access: AccessWords) -> AccessedWords
-    ensures { λ x. ⌜ accessed (x .session) (now (memory .exit)) (x .answer) ≡ accessedBy (accessCall ours (sessionView session) (now (memory .entry)) (accessOf access)) ⌝ }
+// The number of the entry of an access's page.
+pub fn entry_of(access: AccessWords) -> usize
+    ensures { λ i. ⌜ (i ≡ entryFor (accessOf access)) × (i < entryCount) ⌝ }
+{
+    session::entry_of(access_of(access))
+}
+
+fn no_answer() -> AnswerWords
+    ensures { λ w. ⌜ w ≡ wordsOf (refused 0) ⌝ }
+{
+    AnswerWords {
+        output: 0,
+        tag: 2,
+        refusal: 0,
+        code: 0,
+        level: 0,
+        attribute: 0,
+        shareability: 0,
+        nonglobal: 0,
+        accessed: 0,
+        dirtied: 0,
+        cacheable: 0,
+        reads: 0,
+    }
+}
+
+// What the entry of an access's page says at once, over n bytes of memory, in every session that has it and this regime.
+pub fn hit_entry(regime: RegimeWords, set: u8, entry: Entry, n: usize, access: AccessWords) -> Hit
+    ensures { λ h. ⌜ h ≡ hitOf (entryReply n (accessOf access) (entryView entry) (regimeIn regime set)) ⌝ }
 {
     let a = access_of(access);
-    let x = session.access(memory, a);
-    let after = x.session;
-    let answer = x.answer;
-    AccessedWords {
-        session: after,
+    if session::hits(regime, set, entry, n, a) {
+        let r = regime.regime();
+        return Hit {
+            hit: true,
+            answer: success_words(entry.success(r, a)),
+        };
+    }
+    Hit {
+        hit: false,
+        answer: no_answer(),
+    }
+}
+
+// An access in every session that has this regime, and this entry for the access's page: 9, 1, 6, 7.
+pub fn access_entry(
+    regime: RegimeWords,
+    set: u8,
+    entry: Entry,
+    memory: &mut [u8],
+    access: AccessWords,
+) -> FilledWords
+    ensures { λ x. ⌜ FillsWords regime set entry (accessOf access) (now (memory .entry)) (x .entry) (now (memory .exit)) (x .answer) ⌝ }
+{
+    let a = access_of(access);
+    let filled = session::access_entry(regime, set, entry, memory, a);
+    let after = filled.entry;
+    let answer = filled.answer;
+    FilledWords {
+        entry: after,
         answer: words_of(answer),
     }
 }
 
-// A store of one descriptor in a session: 9, 1, 8.
-pub fn store_words(session: Session, memory: &mut [u8], address: u64, value: u64) -> ChangedWords
-    ensures { λ x. ⌜ changed (x .session) (now (memory .exit)) (x .refusal) ≡ changedBy (storeCall ours (sessionView session) (now (memory .entry)) address value) ⌝ }
+// A store of one descriptor in every session that has this regime: 0, or the number of the refusal, 9, 1 or 8.
+pub fn store_words(regime: RegimeWords, set: u8, memory: &mut [u8], address: u64, value: u64) -> u8
+    ensures { λ n. ⌜ StoresWords regime set address value (now (memory .entry)) (now (memory .exit)) n ⌝ }
 {
-    let x = session.store(memory, PhysAddr(address), value);
-    let after = x.session;
-    let reply = x.reply;
-    ChangedWords {
-        session: after,
-        refusal: refusal_byte(reply),
-    }
+    refusal_byte(session::store_in(regime, set, memory, PhysAddr(address), value))
 }

@@ -1,22 +1,16 @@
 use borrow.Author.Needs.{needs}
-use Rattle.permission.specs.Decision.{passing, cacheable}
+use Rattle.permission.specs.Decision.{passing}
 use Rattle.permission.proofs.passing.Statement.{statement}
 use Rattle.permission.proofs.passing.Tie as tie
 
 returns : tie.Need-returns
-unfolding passing cacheable
-returns c = rw (c .updated .ensures, c .before .bit2 .ensures, c .before .before .level .ensures, c .before .before .before .bit .ensures, c .before .before .before .before .field .ensures .0, c .before .before .before .before .before .attribute-of .ensures, c .before .before .before .before .before .before .output-of .ensures, c .before .before .before .before .before .before .before .dirty-due .ensures, c .before .before .before .before .before .before .before .before .flag-due .ensures)
+unfolding passing
+returns c = rw (c .before .success .ensures, c .updated .ensures, c .before .before .dirty-due .ensures, c .before .before .before .flag-due .ensures)
 
 pub passing-spec : {M : Type 1} → statement M
 passing-spec =
     tie.close
     (tie.spec
-    (λ c κs. search needs)
-    (λ c κs. search needs)
-    (λ c κs. search needs)
-    (λ c κs. search needs)
-    (λ c κs. search needs)
-    (λ c. search needs)
     (λ c κs. search needs)
     (λ c κs. search needs)
     (λ c κs. search needs)

@@ -1,80 +1,10 @@
 use borrow.Author.Needs.{needs}
-use mathlib.Core.Bool.{not}
-use mathlib.Core.Path.{_≡_, refl, sym, ap, _∙_}
-use Prim.Native.Nat.{ℕ, _+_, _-_}
-use native.Mathlib.Nat.{add-sub-cancel-left}
-use native.Mathlib.Omega.{arith}
-use lib.ListN.{length}
-use borrow.Author.Tests.{eq-eqb, ne-eqb}
-use Rattle.vmsa.specs.Words.{regimeOf}
-use Rattle.checks.specs.Order.{sessionStoreCheck}
-use Rattle.checks.specs.declared.Checked.the-variants.{Accepted}
-use Rattle.session.proofs.Calls.{store-unset, store-checked, store-accepted, stored, store-room, store-done}
+use mathlib.Core.Path.{refl}
 use Rattle.session.proofs.Session.store.Statement.{statement}
 use Rattle.session.proofs.Session.store.Tie as tie
 
 returns : tie.Need-returns
-returns c =
-    let a = c .before .before .before .args in
-    rw (store-unset (a .self) (a .memory .now) (ap not (eq-eqb (a .self .set) 0 (c .if1 .taken))) (a .address .0) (a .value))
-
-add-end : tie.Need-add-end
-add-end c =
-    let a = c .before .before .before .before .before .before .before .before .before .args in
-    let h = store-accepted (length (a .memory .now)) (c .before .before .before .before .before .regime .result .pool) (a .address .0) (sym (c .before .before .before .check-session-store .ensures) ∙ c .before .enum-told .given .1) in
-    omega (arith, h .fits)
-
-sub-offset : tie.Need-sub-offset
-sub-offset c =
-    let a = c .before .before .before .before .before .before .before .before .before .before .before .args in
-    let h = store-accepted (length (a .memory .now)) (c .before .before .before .before .before .before .before .regime .result .pool) (a .address .0) (sym (c .before .before .before .before .before .check-session-store .ensures) ∙ c .before .before .before .enum-told .given .1) in
-    h .least
-
-part-store-end : tie.Need-part-store-end
-part-store-end c =
-    let a = c .before .before .before .before .before .before .before .before .before .before .before .args in
-    let h = store-accepted (length (a .memory .now)) (c .before .before .before .before .before .before .before .regime .result .pool) (a .address .0) (sym (c .before .before .before .before .before .check-session-store .ensures) ∙ c .before .before .before .enum-told .given .1) in
-    omega (arith, h .fits)
-
-store-requires : tie.Need-store-requires
-store-requires c κs =
-    let a = c .before .before .before .before .before .before .before .before .before .before .before .before .args in
-    let r = c .before .before .before .before .before .before .before .before .regime .result in
-    let s = r .pool .start in
-    let n = r .pool .length in
-    let h = store-accepted (length (a .memory .now)) (r .pool) (a .address .0) (sym (c .before .before .before .before .before .before .check-session-store .ensures) ∙ c .before .before .before .before .enum-told .given .1) in
-    store-room r (a .memory .now) (a .address .0) (s + n - s) h (add-sub-cancel-left s n)
-
-returns-2 : tie.Need-returns-2
-returns-2 c =
-    let a = c .before .before .before .before .before .before .before .before .before .args in
-    rw (store-checked (a .self) (a .memory .now) (ap not (ne-eqb (a .self .set) 0 (c .before .before .before .before .before .before .if1 .left))) (a .address .0) (a .value), sym (rw (c .before .before .before .before .before .regime .ensures) at (c .before .before .before .check-session-store .ensures)) ∙ c .before .refusal .given .1)
-
-returns-3 : tie.Need-returns-3
-returns-3 c =
-    let a = c .before .before .before .before .before .before .before .before .before .before .before .before .before .before .before .args in
-    let r = c .before .before .before .before .before .before .before .before .before .before .before .regime .result in
-    let s = r .pool .start in
-    let n = r .pool .length in
-    let z : sessionStoreCheck (length (a .memory .now)) (r .pool) (a .address .0) ≡ Accepted = sym (c .before .before .before .before .before .before .before .before .before .check-session-store .ensures) ∙ c .before .before .before .before .before .before .before .enum-told .given .1 in
-    let e = stored r (a .memory .now) (a .address .0) (a .value) (store-accepted (length (a .memory .now)) (r .pool) (a .address .0) z) (c .before .before .store .last .0) (s + n - s) (add-sub-cancel-left s n) (c .before .before .store .ensures) in
-    store-done (a .self) (a .memory .now) (ap not (ne-eqb (a .self .set) 0 (c .before .before .before .before .before .before .before .before .before .before .before .before .if1 .left))) r (c .before .before .before .before .before .before .before .before .before .before .before .regime .ensures) (a .address .0) (a .value) z _ e
+returns c = c .before .before .store-in .ensures (c .before .before .before .before .before .args .self) refl refl
 
 pub store-spec : {M : Type 1} → statement M
-store-spec =
-    tie.close
-    (tie.spec
-    returns
-    (λ c κs. search needs)
-    (λ c κs. search needs)
-    (λ c. search needs)
-    (λ c. search needs)
-    add-end
-    sub-offset
-    (λ c. search needs)
-    (λ c. search needs)
-    part-store-end
-    store-requires
-    returns-2
-    (λ c. search needs)
-    returns-3)
+store-spec = tie.close (tie.spec (λ c κs. search needs) (λ c. search needs) returns)
