@@ -1,6 +1,6 @@
 //! Links `libcapi.a` into the binary. It is looked for in the folder named
 //! by `VMSA_LIB` (taken from this package's folder if relative), or else in
-//! `../target/staticlib`. `bench` is built with this file too.
+//! `../target/staticlib`.
 //!
 //! The archive goes to the binary alone: a `rustc-link-lib` line would hand
 //! it to the lib target too, and then the tests could not be built without

@@ -1,5 +1,6 @@
 //! The library's C interface, with the records and functions of the Rust
-//! bindings. Both sides take and give these records.
+//! bindings, and the two functions of `kernels`, which only this program
+//! calls. Both sides take and give these records.
 
 #[path = "../../bindings/rust/src/ffi.rs"]
 #[allow(dead_code)]
@@ -16,6 +17,24 @@ pub const PROBE_READ: u8 = 4;
 pub const SUCCESS: u8 = 0;
 pub const FAULT: u8 = 1;
 pub const REFUSED: u8 = 2;
+
+extern "C" {
+    fn vmsa_descriptor_load(memory: *const u8, length: usize, at: usize) -> u64;
+    fn vmsa_descriptor_store(memory: *mut u8, length: usize, at: usize, value: u64);
+}
+
+#[inline(always)]
+pub fn load(memory: &[u8], at: usize) -> u64 {
+    // SAFETY: the pointer and length are those of a slice lent to this call,
+    // and the library takes any offset and stays inside the slice.
+    unsafe { vmsa_descriptor_load(memory.as_ptr(), memory.len(), at) }
+}
+
+#[inline(always)]
+pub fn store(memory: &mut [u8], at: usize, value: u64) {
+    // SAFETY: as for `load`; the slice is lent to this call alone.
+    unsafe { vmsa_descriptor_store(memory.as_mut_ptr(), memory.len(), at, value) }
+}
 
 #[inline(always)]
 pub fn walk(memory: &mut [u8], regime: &Regime, access: &Access) -> Answer {
@@ -38,6 +57,11 @@ impl Session {
     #[inline(always)]
     pub fn access(&mut self, memory: &mut [u8], access: &Access) -> Answer {
         ffi::session_access(&mut self.0, memory, *access)
+    }
+
+    #[inline(always)]
+    pub fn store(&mut self, memory: &mut [u8], address: u64, value: u64) -> u8 {
+        ffi::session_store(&mut self.0, memory, address, value)
     }
 
     #[inline(always)]

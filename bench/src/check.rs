@@ -1,5 +1,5 @@
-//! Both sides on random tables, regimes and accesses: each whole answer and
-//! each byte of memory is to be the same.
+//! Both sides on random descriptors, tables, regimes and accesses: each whole
+//! answer and each byte of memory is to be the same.
 
 use crate::boundary::{self, Access, Regime};
 use crate::kernels;
@@ -7,6 +7,7 @@ use crate::plain;
 
 const SCENES: u32 = 2_000;
 const CALLS: u32 = 100;
+const DESCRIPTORS: u32 = 50_000;
 
 /// xorshift64*, seeded once: every run makes the same calls.
 struct Random(u64);
@@ -83,22 +84,81 @@ impl Random {
         }
     }
 
-    /// Random bits in a descriptor of the tables, most often in a leaf.
-    fn disturb(&mut self, memory: &mut [u8]) {
-        let at = match self.below(8) {
+    /// The offset of a descriptor of the tables, most often of a leaf.
+    fn place(&mut self) -> usize {
+        match self.below(8) {
             0 => [0x0000, 0x1000, 0x1008, 0x2010][self.below(4) as usize],
             1 => 0x4000 + 8 * self.below(8) as usize,
             _ => 0x3000 + 8 * (self.below(2) * 64 + self.below(4)) as usize,
-        };
+        }
+    }
+
+    /// The descriptor there, with random bits turned over.
+    fn disturbed(&mut self, memory: &[u8], at: usize) -> u64 {
         let bits = 1 << self.below(64) | 1 << [2, 3, 6, 7, 10, 51, 53, 54][self.below(8) as usize];
         let old = u64::from_le_bytes(memory[at..at + 8].try_into().expect("8 bytes"));
-        memory[at..at + 8].copy_from_slice(&(old ^ bits).to_le_bytes());
+        old ^ bits
+    }
+
+    fn disturb(&mut self, memory: &mut [u8]) {
+        let at = self.place();
+        let value = self.disturbed(memory, at);
+        memory[at..at + 8].copy_from_slice(&value.to_le_bytes());
+    }
+
+    /// The address of a store, most often that of a descriptor at `at`.
+    fn store_address(&mut self, regime: &Regime, at: usize) -> u64 {
+        let end = regime.address.wrapping_add(regime.length as u64);
+        match self.below(16) {
+            0 => (regime.address + at as u64) ^ 1 << self.below(64),
+            1 => end.wrapping_sub(self.below(3) * 8),
+            2 => end.wrapping_sub(self.below(16)),
+            3 => regime.address.wrapping_sub(self.below(16)),
+            4 => self.next(),
+            5 => u64::MAX - self.below(16),
+            _ => regime.address + at as u64,
+        }
+    }
+
+    /// The offset of a load or a store in `length` bytes, also where it does
+    /// not fit.
+    fn offset(&mut self, length: usize) -> usize {
+        match self.below(8) {
+            0 => length.wrapping_sub(self.below(16) as usize),
+            1 => length + self.below(16) as usize,
+            2 => usize::MAX - self.below(16) as usize,
+            3 => self.next() as usize,
+            _ => self.below(length as u64 + 1) as usize,
+        }
     }
 }
 
 /// Gives the number of calls compared, and panics at the first difference.
 pub fn same_answers() -> u32 {
     let mut random = Random(0x9e37_79b9_7f4a_7c15);
+    same_descriptors(&mut random) + same_walks(&mut random)
+}
+
+/// Loads and stores, half of them in fewer than 16 bytes.
+fn same_descriptors(random: &mut Random) -> u32 {
+    let (mut ours, mut plain) = (kernels::memory(), kernels::memory());
+    for _ in 0..DESCRIPTORS {
+        let most = [16, ours.len() as u64 + 1][random.below(2) as usize];
+        let length = random.below(most) as usize;
+
+        let at = random.offset(length);
+        let value = boundary::load(&ours[..length], at);
+        assert_eq!(value, plain::load(&plain[..length], at), "{at} of {length}");
+
+        let (at, value) = (random.offset(length), random.next());
+        boundary::store(&mut ours[..length], at, value);
+        plain::store(&mut plain[..length], at, value);
+        assert!(ours == plain, "other bytes after {at} of {length}");
+    }
+    2 * DESCRIPTORS
+}
+
+fn same_walks(random: &mut Random) -> u32 {
     for _ in 0..SCENES {
         let mut ours = kernels::memory();
         for _ in 0..random.below(12) {
@@ -127,6 +187,19 @@ pub fn same_answers() -> u32 {
                 6..=9 => {
                     random.disturb(&mut ours);
                     plain.copy_from_slice(&ours);
+                }
+                10..=17 => {
+                    // Now and then in a shorter memory.
+                    let most = [1, 4097][usize::from(random.rarely())];
+                    let length = ours.len() - random.below(most) as usize;
+                    let at = random.place();
+                    let address = random.store_address(&regime, at);
+                    let value = random.disturbed(&ours, at);
+                    assert_eq!(
+                        our_session.store(&mut ours[..length], address, value),
+                        plain_session.store(&mut plain[..length], address, value),
+                        "{address:#x} of {length}"
+                    );
                 }
                 _ => {}
             }

@@ -1,17 +1,28 @@
 //! What is measured: one call again and again, on either side.
 
+use std::array;
 use std::hint::black_box;
 
 use crate::boundary::{self, Access, Answer, Regime, READ};
 use crate::plain;
 
+/// The accesses of every kernel repeat after so many calls.
+const PERIOD: usize = 512;
+
+/// The bytes of the memory, all of them the pool.
+const MEMORY: usize = 0x1_0000;
+const POOL_ADDRESS: u64 = 0x4000_0000;
+
 #[derive(Clone, Copy, PartialEq)]
 pub enum Kernel {
+    Load,
+    Store,
     Walk4,
     Block2,
     Hit,
     Miss,
     SetRegime,
+    SessionStore,
     InvalidateAll,
 }
 
@@ -24,22 +35,28 @@ pub enum Side {
 }
 
 impl Kernel {
-    pub const ALL: [Kernel; 6] = [
+    pub const ALL: [Kernel; 9] = [
+        Kernel::Load,
+        Kernel::Store,
         Kernel::Walk4,
         Kernel::Block2,
         Kernel::Hit,
         Kernel::Miss,
         Kernel::SetRegime,
+        Kernel::SessionStore,
         Kernel::InvalidateAll,
     ];
 
     pub fn name(self) -> &'static str {
         match self {
+            Kernel::Load => "load",
+            Kernel::Store => "store",
             Kernel::Walk4 => "walk4",
             Kernel::Block2 => "block2",
             Kernel::Hit => "hit",
             Kernel::Miss => "miss",
             Kernel::SetRegime => "set-regime",
+            Kernel::SessionStore => "session-store",
             Kernel::InvalidateAll => "invalidate-all",
         }
     }
@@ -48,8 +65,7 @@ impl Kernel {
         Kernel::ALL.into_iter().find(|kernel| kernel.name() == name)
     }
 
-    /// The access of call `i`.
-    #[inline(always)]
+    /// The access of call `i`, and again of call `i + PERIOD`.
     fn access(self, i: u64) -> Access {
         let address = match self {
             // 512 pages in a scattered order.
@@ -85,8 +101,8 @@ impl Side {
 pub fn regime() -> Regime {
     Regime {
         start: 0,
-        length: 0x1_0000,
-        address: 0x4000_0000,
+        length: MEMORY,
+        address: POOL_ADDRESS,
         root0: 0x4000_0000,
         root1: 0x4000_0000,
         attributes: u64::MAX,
@@ -104,7 +120,7 @@ pub fn regime() -> Regime {
 /// Tables of 512 pages from 0x400000 and of 512 blocks from 0x40000000, every
 /// leaf accessed and dirty.
 pub fn memory() -> Vec<u8> {
-    let mut memory = vec![0; 0x1_0000];
+    let mut memory = vec![0; MEMORY];
     let mut put = |offset: usize, value: u64| {
         memory[offset..offset + 8].copy_from_slice(&value.to_le_bytes());
     };
@@ -123,6 +139,11 @@ pub fn memory() -> Vec<u8> {
 /// A memory and a session for each side.
 pub struct Bed {
     regime: Regime,
+    /// The accesses of the calls lie ready in memory. Built right before its
+    /// call, an access would be written field by field and at once copied to
+    /// the outgoing arguments in wider pieces, and each such load would wait
+    /// for the stores: a delay of the harness, on one side alone.
+    accesses: [Access; PERIOD],
     memory: [Vec<u8>; 2],
     ours: boundary::Session,
     plain: plain::Session,
@@ -133,6 +154,7 @@ impl Bed {
     pub fn new(kernel: Kernel) -> Bed {
         let mut bed = Bed {
             regime: regime(),
+            accesses: array::from_fn(|i| kernel.access(i as u64)),
             memory: [memory(), memory()],
             ours: boundary::Session::empty(),
             plain: plain::Session::empty(),
@@ -157,75 +179,114 @@ impl Bed {
     pub fn run(&mut self, kernel: Kernel, side: Side, calls: u64) -> u64 {
         let Bed {
             regime,
+            accesses,
             memory: [memory, plain_memory],
             ours,
             plain,
         } = self;
-        let regime = &*regime;
+        let (regime, accesses) = (&*regime, &*accesses);
+        let (memory, plain_memory) = (&mut memory[..], &mut plain_memory[..]);
         match (kernel, side) {
-            (Kernel::Walk4, Side::Ours) => answers(Kernel::Walk4, calls, |access| {
-                boundary::walk(memory, black_box(regime), access)
+            (Kernel::Load, Side::Ours) => offsets(calls, move |at| boundary::load(memory, at)),
+            (Kernel::Load, Side::Plain) => offsets(calls, move |at| plain::load(plain_memory, at)),
+            (Kernel::Store, Side::Ours) => offsets(calls, move |at| {
+                boundary::store(memory, at, at as u64);
+                0
             }),
-            (Kernel::Walk4, Side::Plain) => answers(Kernel::Walk4, calls, |access| {
-                plain::walk(plain_memory, black_box(regime), access)
+            (Kernel::Store, Side::Plain) => offsets(calls, move |at| {
+                plain::store(plain_memory, at, at as u64);
+                0
             }),
-            (Kernel::Block2, Side::Ours) => answers(Kernel::Block2, calls, |access| {
-                boundary::walk(memory, black_box(regime), access)
-            }),
-            (Kernel::Block2, Side::Plain) => answers(Kernel::Block2, calls, |access| {
-                plain::walk(plain_memory, black_box(regime), access)
-            }),
-            (Kernel::Hit, Side::Ours) => answers(Kernel::Hit, calls, |access| {
+            (Kernel::Walk4 | Kernel::Block2, Side::Ours) => {
+                answers(calls, accesses, move |access| {
+                    boundary::walk(memory, black_box(regime), access)
+                })
+            }
+            (Kernel::Walk4 | Kernel::Block2, Side::Plain) => {
+                answers(calls, accesses, move |access| {
+                    plain::walk(plain_memory, black_box(regime), access)
+                })
+            }
+            (Kernel::Hit | Kernel::Miss, Side::Ours) => answers(calls, accesses, move |access| {
                 black_box(&mut *ours).access(memory, access)
             }),
-            (Kernel::Hit, Side::Plain) => answers(Kernel::Hit, calls, |access| {
+            (Kernel::Hit | Kernel::Miss, Side::Plain) => answers(calls, accesses, move |access| {
                 black_box(&mut *plain).access(plain_memory, access)
             }),
-            (Kernel::Miss, Side::Ours) => answers(Kernel::Miss, calls, |access| {
-                black_box(&mut *ours).access(memory, access)
-            }),
-            (Kernel::Miss, Side::Plain) => answers(Kernel::Miss, calls, |access| {
-                black_box(&mut *plain).access(plain_memory, access)
-            }),
-            (Kernel::SetRegime, Side::Ours) => codes(calls, || {
+            (Kernel::SetRegime, Side::Ours) => codes(calls, move || {
                 black_box(&mut *ours).set_regime(memory, black_box(regime))
             }),
-            (Kernel::SetRegime, Side::Plain) => codes(calls, || {
+            (Kernel::SetRegime, Side::Plain) => codes(calls, move || {
                 black_box(&mut *plain).set_regime(plain_memory, black_box(regime))
             }),
-            (Kernel::InvalidateAll, Side::Ours) => codes(calls, || {
+            (Kernel::SessionStore, Side::Ours) => offsets(calls, move |at| {
+                let at = at as u64;
+                black_box(&mut *ours)
+                    .store(memory, POOL_ADDRESS + at, at)
+                    .into()
+            }),
+            (Kernel::SessionStore, Side::Plain) => offsets(calls, move |at| {
+                let at = at as u64;
+                black_box(&mut *plain)
+                    .store(plain_memory, POOL_ADDRESS + at, at)
+                    .into()
+            }),
+            (Kernel::InvalidateAll, Side::Ours) => codes(calls, move || {
                 black_box(&mut *ours).invalidate_all();
                 0
             }),
-            (Kernel::InvalidateAll, Side::Plain) => codes(calls, || {
+            (Kernel::InvalidateAll, Side::Plain) => codes(calls, move || {
                 black_box(&mut *plain).invalidate_all();
                 0
             }),
+            (Kernel::Load | Kernel::SessionStore, Side::Loop) => offsets(calls, |at| at as u64),
+            (Kernel::Store, Side::Loop) => offsets(calls, |_| 0),
             (Kernel::SetRegime | Kernel::InvalidateAll, Side::Loop) => {
                 codes(calls, || black_box(0))
             }
             (_, Side::Loop) => {
                 let answer = Answer::default();
-                answers(Kernel::Walk4, calls, |_| *black_box(&answer))
+                answers(calls, accesses, move |_| *black_box(&answer))
             }
         }
     }
 }
 
+// Each loop is a function of its own for each call, so that its registers are
+// not shared out among all of them.
+
 /// The checksum takes in the output, the tag and the reads of each answer;
 /// the other fields are compared in `check`, where no time is taken.
-#[inline(always)]
-fn answers(kernel: Kernel, calls: u64, mut call: impl FnMut(&Access) -> Answer) -> u64 {
+///
+/// Neither byte goes to the top of the sum: there the compiler would take it
+/// out of a wider load, which would wait for the byte stores of the call.
+#[inline(never)]
+fn answers(
+    calls: u64,
+    accesses: &[Access; PERIOD],
+    mut call: impl FnMut(&Access) -> Answer,
+) -> u64 {
     let mut sum = 0u64;
     for i in 0..calls {
-        let answer = call(black_box(&kernel.access(i)));
+        let answer = call(black_box(&accesses[i as usize % PERIOD]));
         let rest = u64::from(answer.tag) << 8 | u64::from(answer.reads);
-        sum = sum.rotate_left(5) ^ answer.output ^ rest << 48;
+        sum = sum.rotate_left(5) ^ answer.output ^ rest << 40;
     }
     sum
 }
 
-#[inline(always)]
+/// Calls with the offset of a descriptor: all of the memory's, scattered.
+#[inline(never)]
+fn offsets(calls: u64, mut call: impl FnMut(usize) -> u64) -> u64 {
+    let mut sum = 0u64;
+    for i in 0..calls {
+        let at = black_box(i as usize * 5_167 % (MEMORY / 8) * 8);
+        sum = sum.rotate_left(5) ^ call(at);
+    }
+    sum
+}
+
+#[inline(never)]
 fn codes(calls: u64, mut call: impl FnMut() -> u8) -> u64 {
     let mut sum = 0u64;
     for _ in 0..calls {

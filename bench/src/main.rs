@@ -2,8 +2,9 @@
 //! both measured in one run.
 //!
 //! `bench [CALLS]` checks that both give the same answers and prints one line
-//! for each kernel. `bench count KERNEL SIDE CALLS` runs one kernel alone, for
-//! a tool that counts instructions; `bench kernels` lists the kernels.
+//! for each kernel; `bench check` does the first alone. `bench count KERNEL
+//! SIDE CALLS` runs one kernel alone, for a tool that counts instructions;
+//! `bench kernels` lists the kernels.
 
 mod boundary;
 mod check;
@@ -25,6 +26,7 @@ fn main() -> ExitCode {
     let arguments: Vec<&str> = arguments.iter().map(String::as_str).collect();
     match arguments[..] {
         [] => measure(CALLS),
+        ["check"] => check(),
         ["kernels"] => {
             for kernel in Kernel::ALL {
                 println!("{}", kernel.name());
@@ -49,15 +51,19 @@ fn main() -> ExitCode {
 
 fn usage() -> ExitCode {
     eprintln!("bench [CALLS, at least {ROUNDS}]");
+    eprintln!("bench check");
     eprintln!("bench kernels");
     eprintln!("bench count KERNEL ours|plain|loop CALLS");
     ExitCode::FAILURE
 }
 
-fn measure(calls: u64) {
+fn check() {
     let compared = check::same_answers();
     println!("{compared} random calls: all answers and all bytes the same on both sides");
+}
 
+fn measure(calls: u64) {
+    check();
     let calls = calls / ROUNDS;
     println!(
         "{ROUNDS} rounds of {calls} calls for each side in turn; median; \

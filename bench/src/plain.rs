@@ -23,6 +23,21 @@ const DBM: u64 = 1 << 51;
 const PXN: u64 = 1 << 53;
 const UXN: u64 = 1 << 54;
 
+#[inline(never)]
+pub fn load(memory: &[u8], at: usize) -> u64 {
+    match memory.get(at..).and_then(|rest| rest.first_chunk()) {
+        Some(bytes) => u64::from_le_bytes(*bytes),
+        None => 0,
+    }
+}
+
+#[inline(never)]
+pub fn store(memory: &mut [u8], at: usize, value: u64) {
+    if let Some(bytes) = memory.get_mut(at..).and_then(|rest| rest.get_mut(..8)) {
+        bytes.copy_from_slice(&value.to_le_bytes());
+    }
+}
+
 /// A leaf descriptor, and the levels below it.
 #[derive(Clone, Copy)]
 struct Leaf {
@@ -323,6 +338,23 @@ impl Session {
             *place = leaf.map(|leaf| Entry { page, leaf });
         }
         answer
+    }
+
+    #[inline(never)]
+    pub fn store(&self, memory: &mut [u8], address: u64, value: u64) -> u8 {
+        let Some(regime) = &self.regime else {
+            return 9;
+        };
+        if !pool_fits(memory.len(), regime) {
+            return 1;
+        }
+        let end = regime.address + regime.length as u64;
+        if !address.is_multiple_of(8) || address < regime.address || address > end - 8 {
+            return 8;
+        }
+        let offset = regime.start + (address - regime.address) as usize;
+        memory[offset..offset + 8].copy_from_slice(&value.to_le_bytes());
+        0
     }
 
     #[inline(never)]
