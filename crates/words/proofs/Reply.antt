@@ -21,13 +21,14 @@ use Rattle.checks.specs.declared.Checked.the-variants.{Accepted, Refused}
 use Rattle.checks.specs.Order.{regimeCheck}
 use Rattle.session.specs.declared.Session.{Session as SessionStruct}
 use Rattle.session.specs.Replies.{Reply, replyOf, replyTo}
-use Rattle.session.specs.Model.{setBy, accessCall}
+use Rattle.session.specs.Model.{setBy, accessCall, setCall}
 use Rattle.session.specs.Ours.{ours}
 use Rattle.session.specs.View.{noEntry, entryView, regimeIn, sessionView, setTo, entryFor, entryReply, succeeds}
 use Rattle.session.proofs.Calls.{set-checked, reply-is-call}
 use Rattle.words.specs.declared.AnswerWords.{AnswerWords}
 use Rattle.words.specs.declared.Hit.{Hit}
-use Rattle.words.specs.Words.{wordsOf, refusalByte, replyWords, changed, changedBy, accessed, accessedBy, SetsWords, hitOf}
+use Rattle.words.specs.declared.SetWords.{SetWords}
+use Rattle.words.specs.Words.{wordsOf, refusalByte, replyWords, changed, changedBy, accessed, accessedBy, setWords, hitOf}
 
 pub reply-words : (o : Result) → replyWords (replyOf o) ≡ wordsOf o
 unfolding wordsOf
@@ -53,10 +54,14 @@ set-by : (s : SessionStruct) (m : List ℕ) (g : Regime) (r : RegimeWords) → r
 set-by s m g r e Accepted = rw e
 set-by s m g r e (Refused x) = rw (not-zero x)
 
-pub set-is-call : (n : ℕ) (g : RegimeWords) (refusal : ℕ) (r : RegimeWords) → refusal ≡ refusalByte (replyTo (regimeCheck n (regimeOf g))) → r ≡ regimeWords (regimeOf g) → SetsWords g n refusal r
-set-is-call n g refusal r e q s m long =
+-- whatever session, over n bytes of memory: refused, it stays as it was; with 0 it is set to the regime
+abbrev pub Sets : RegimeWords → ℕ → SetWords → Type 0
+Sets g n x = (s : SessionStruct) (m : List ℕ) → length m ≡ n → changed (pick (eqb (x .refusal) 0) (setTo (x .regime)) s) m (x .refusal) ≡ changedBy (setCall ours (sessionView s) m (regimeOf g))
+
+pub set-is-call : (n : ℕ) (g : RegimeWords) (x : SetWords) → x ≡ setWords n (regimeOf g) → Sets g n x
+set-is-call n g x e s m long =
     let R = regimeOf g in
-    rw (e, ← long, set-checked (sessionView s) m R) (set-by s m R r (ap regimeOf q ∙ regime-words R) (regimeCheck (length m) R))
+    rw (e, ← long, set-checked (sessionView s) m R) (set-by s m R (regimeWords R) (regime-words R) (regimeCheck (length m) R))
 
 -- ---- a hit
 

@@ -4,25 +4,27 @@ use mathlib.Core.List.{List}
 use mathlib.Core.Option.{Option, none, some}
 use mathlib.Core.Path.{_≡_}
 use lib.Dec.{eqb}
-use lib.ListN.{length, getD}
+use lib.ListN.{getD}
 use Rattle.descriptor.specs.Bits.{pick}
-use Rattle.vmsa.specs.Words.{flag, flagByte, regimeOf}
+use Rattle.vmsa.specs.Words.{flag, flagByte, regimeWords}
 use Rattle.vmsa.specs.Answers.{Result, success, fault, refused}
 use Rattle.vmsa.specs.declared.Access.{Access}
 use Rattle.vmsa.specs.declared.AccessKind.{AccessKind}
 use Rattle.vmsa.specs.declared.AccessKind.the-variants.{Read, Write, Update, Fetch, ProbeRead, ProbeWrite}
 use Rattle.vmsa.specs.declared.Regime.{Regime}
 use Rattle.vmsa.specs.declared.RegimeWords.{RegimeWords}
+use Rattle.checks.specs.Order.{regimeCheck}
 use Rattle.walk.specs.Walk.{walk}
 use Rattle.session.specs.declared.Session.{Session as SessionStruct}
-use Rattle.session.specs.Replies.{Reply, done, refused as refusedWith, answered}
+use Rattle.session.specs.Replies.{Reply, done, refused as refusedWith, answered, replyTo}
 use Rattle.session.specs.declared.Entry.{Entry as EntryStruct}
-use Rattle.session.specs.Model.{Session, Stepped, setCall, accessCall, storeCall}
+use Rattle.session.specs.Model.{Session, Stepped, accessCall, storeCall}
 use Rattle.session.specs.Ours.{ours}
-use Rattle.session.specs.View.{noEntry, sessionView, setTo, entryFor, withEntry, succeeds}
+use Rattle.session.specs.View.{noEntry, sessionView, entryFor, withEntry, succeeds}
 use Rattle.words.specs.declared.AccessWords.{AccessWords}
 use Rattle.words.specs.declared.AnswerWords.{AnswerWords}
 use Rattle.words.specs.declared.Hit.{Hit}
+use Rattle.words.specs.declared.SetWords.{SetWords}
 
 -- 0 read, 1 write, 2 update, 3 fetch, 4 probe-read, 5 and above probe-write
 abbrev pub kindOf : ℕ → AccessKind
@@ -138,9 +140,9 @@ accessedBy x = record { session = x .session; memory = x .memory; reply = replyW
 
 -- ---- a set regime
 
--- whatever session, over n bytes of memory: refused, it stays as it was; with 0 it is set to the regime r
-abbrev pub SetsWords : RegimeWords → ℕ → ℕ → RegimeWords → Type 0
-SetsWords regime n refusal r = (s : SessionStruct) (m : List ℕ) → length m ≡ n → changed (pick (eqb refusal 0) (setTo r) s) m refusal ≡ changedBy (setCall ours (sessionView s) m (regimeOf regime))
+-- over n bytes of memory: the number of the refusal or 0, and the regime as a session holds it
+abbrev pub setWords : ℕ → Regime → SetWords
+setWords n r = record { refusal = refusalByte (replyTo (regimeCheck n r)); regime = regimeWords r }
 
 -- ---- a store
 

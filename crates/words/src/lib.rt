@@ -6,7 +6,7 @@ ghost use Rattle.vmsa.specs.Words.{regimeOf};
 ghost use Rattle.session.specs.Replies.{replyTo};
 ghost use Rattle.session.specs.Model.{entryCount};
 ghost use Rattle.session.specs.View.{entryView, regimeIn, entryFor, entryReply};
-ghost use Rattle.words.specs.Words.{kindOf, accessOf, wordsOf, told, walkTold, refusalByte, hitOf, SetsWords, FillsWords, StoresWords};
+ghost use Rattle.words.specs.Words.{kindOf, accessOf, wordsOf, told, walkTold, refusalByte, setWords, hitOf, FillsWords, StoresWords};
 use checks::Checked;
 use session::Entry;
 use vmsa::Access;
@@ -183,9 +183,9 @@ fn refusal_byte(x: Checked) -> u8
     }
 }
 
-// A set regime in every session, over n bytes of memory: 0, or the number of the refusal, 1 to 5.
+// A regime to be set over n bytes of memory: 0, or the number of the refusal, 1 to 5; and the regime as a session holds it.
 pub fn set_words(n: usize, regime: RegimeWords) -> SetWords
-    ensures { λ x. ⌜ SetsWords regime n (x .refusal) (x .regime) ⌝ }
+    ensures { λ x. ⌜ x ≡ setWords n (regimeOf regime) ⌝ }
 {
     let r = regime.regime();
     SetWords {

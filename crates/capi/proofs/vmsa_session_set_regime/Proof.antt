@@ -48,7 +48,7 @@ use Rattle.session.specs.Model.{entryCount, setCall}
 use Rattle.session.specs.Ours.{ours}
 use Rattle.session.specs.View.{noEntry, sessionView, setTo}
 use Rattle.session.specs.declared.Session.{Session}
-use Rattle.words.specs.Words.{changed, changedBy, SetsWords}
+use Rattle.words.specs.Words.{changed, changedBy, setWords}
 use Rattle.words.specs.declared.SetWords.{SetWords}
 use Rattle.vmsa.proofs.RegimeWords as R
 use Rattle.vmsa.proofs.RegimeWords.Laws as R′
@@ -60,6 +60,7 @@ use Rattle.session.proofs.Entry.empty.Symbol.{name as #empty}
 use Rattle.session.proofs.Entry.empty.Met as empty-thm
 use Rattle.words.proofs.SetWords as X
 use Rattle.words.proofs.SetWords.Laws as X′
+use Rattle.words.proofs.Reply.{set-is-call}
 use Rattle.words.proofs.set_words as check
 use Rattle.words.proofs.set_words.Symbol as check-def
 use Rattle.words.proofs.set_words.Symbol.{name as #check}
@@ -130,16 +131,16 @@ module _ {M : Type 1} (𝓤 : URA M) (H : Heap 𝓤) (A : Atoms 𝓤) (W : Given
       qed W [] ∵ nothing ! $ owned ! R.the-row (Is R.the-row) (LL.makes R.the-type R′.the-plain 𝓤 H A) g _ ig $ fjoin ! $ owned ! usize (Is usize) (uint-makes 𝓤 H A W w64) (length m) _ (refl, room .0) $ fjoin ! $ nothing ! $ join ! $ frame ! $ done !
 
   abbrev Checked : SetWords → Type 0
-  Checked x = SetsWords g (length m) (x .refusal) (x .regime)
+  Checked x = x ≡ setWords (length m) (regimeOf g)
 
   check-told : (x : SetWords) → ent 𝓤 (ensured 𝓤 H A check.ended (check.clauses 𝓤 H A at-mem run) tt (length m, (g, tt)) tt x) (fact 𝓤 (Checked x))
   check-told x = exE 𝓤 _ (λ ws. snd∗ 𝓤 (sem 𝓤 H A (lasts check.ended tt (length m, (g, tt)) ws)) (fact 𝓤 (Checked x)))
 
   when-refused : (x : SetWords) → Checked x → T (not (eqb (x .refusal) 0)) → Set h m g h (x .refusal)
-  when-refused x e z = subst (λ (s : Session). Set h m g s (x .refusal)) (refused (eqb (x .refusal) 0) (setTo (x .regime)) h z) (e h m refl)
+  when-refused x e z = subst (λ (s : Session). Set h m g s (x .refusal)) (refused (eqb (x .refusal) 0) (setTo (x .regime)) h z) (set-is-call (length m) g x e h m refl)
 
   when-accepted : (x : SetWords) → Checked x → T (not (not (eqb (x .refusal) 0))) → Set h m g (setTo (x .regime)) 0
-  when-accepted x e z = subst (λ (n : ℕ). Set h m g (choose (eqb n 0) (setTo (x .regime)) h) n) (eqb→eq (x .refusal) 0 (held (eqb (x .refusal) 0) z)) (e h m refl)
+  when-accepted x e z = subst (λ (n : ℕ). Set h m g (choose (eqb n 0) (setTo (x .regime)) h) n) (eqb→eq (x .refusal) 0 (held (eqb (x .refusal) 0) z)) (set-is-call (length m) g x e h m refl)
 
   module _ (C : Calls 𝓤 H) (Λ : Loops 𝓤 H) (fm : FmC 𝓤 H (W .laws) C) (known-check : Triple 𝓤 (C #check) (CheckC 𝓤 H A at-mem run)) (known-empty : Triple 𝓤 (C #empty) (EmptyC 𝓤 H A at-mem run)) where
     walk : Room u8 (length m) → Is R.the-row g (rval g ∷ []) → ent 𝓤 (onEntry 𝓤 H A this.signature (κ, (κ′, tt)) (q, (q′, tt)) a (vptr b o ∷ [], vals)) (WpFn 𝓤 H C Λ code.function (vptr b o ∷ slice ∷ rval g ∷ []) Post)
