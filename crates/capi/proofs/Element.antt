@@ -1,7 +1,7 @@
 -- An element of an array as a part of a context's entry, so that it is read and written where the array lies: beside `Types/Part.antt`'s `sub`, which does the same for a field of a struct.
 --     item n us k l e p    element k of the array that p finds, whose elements' machine values are us; it lies at `Denote/Index.antt`'s `place`
 -- It says nothing of this crate. Assumes `Given`.
-use mathlib.Core.Path.{_≡_, refl, _∙_, ap, subst}
+use mathlib.Core.Path.{_≡_, _∙_, ap, subst}
 use Prim.Native.Nat.{ℕ, zero, suc, _+_, _<_}
 use native.Mathlib.Nat.{not-suc-le-zero, le-of-suc-le-suc}
 use mathlib.Core.List.{List, [], _∷_}
@@ -18,11 +18,7 @@ use ghost.Atoms.{Atoms}
 use types.Kit.{Given, Item, ‵, raw, mean, _⊛_, _$_, _∵_, !, qed, move, use1, use2, split, frame, each as for-each, assume, done}
 use types.Part.{Part}
 use denote.Index.{place}
-
-set-same : (us : List Val) (k : ℕ) → set us k (getD us k vunit) ≡ us
-set-same [] k = refl
-set-same (u ∷ us) zero = refl
-set-same (u ∷ us) (suc k) = ap (λ (vs : List Val). u ∷ vs) (set-same us k)
+use Rattle.session.proofs.Entries.{set-same}
 
 module _ {M : Type 1} (𝓤 : URA M) (H : Heap 𝓤) (A : Atoms 𝓤) (W : Given 𝓤 H A) (q : Share) (τ : Ty) (b : ℕ) where
   abbrev Back : List Val → ℕ → ℕ → Val → SProp 𝓤
@@ -53,7 +49,7 @@ module _ {M : Type 1} {𝓤 : URA M} {H : Heap 𝓤} {A : Atoms 𝓤} {K : Type 
         use1 W (‵ (fat q (tyArray τ n) b o (vstruct (ofList (set us k u))))) (subst (λ (m : ℕ). ent 𝓤 (elems 𝓤 H q τ b o (set us k u)) (H .at q (tyArray τ m) b o (vstruct (ofList (set us k u))))) (length-set us k u ∙ e) (W .laws .elems-at q τ b o (set us k u))) $
         move ! (1 ∷ []) $ use1 W (raw (Entry (vstruct (ofList (set us k u))))) (allE 𝓤 Entry (vstruct (ofList (set us k u)))) $ move ! (1 ∷ 0 ∷ []) $
         use2 W (back (vstruct (ofList (set us k u)))) (apply∗ 𝓤 (H .at q (tyArray τ n) b o (vstruct (ofList (set us k u)))) (mean 𝓤 H A (back (vstruct (ofList (set us k u)))))) $ done !);
-    same = ap (λ (vs : List Val). back (vstruct (ofList vs))) (set-same us k) ∙ p .same;
+    same = ap (λ (vs : List Val). back (vstruct (ofList vs))) (set-same us k vunit) ∙ p .same;
   }
     where
       Entry : Val → SProp 𝓤

@@ -57,6 +57,7 @@ use Rattle.vmsa.specs.declared.RegimeWords.{RegimeWords}
 use Rattle.session.specs.declared.Entry.{Entry}
 use Rattle.session.specs.declared.Session.{Session}
 use Rattle.session.specs.Model.{entryCount}
+use Rattle.session.proofs.Entries.{map-set}
 use Rattle.session.specs.View.{noEntry, withEntry}
 use Rattle.vmsa.proofs.RegimeWords as R
 use Rattle.vmsa.proofs.RegimeWords.Laws as R′
@@ -165,9 +166,10 @@ entry-at (e ∷ es) zero l = refl
 entry-at (e ∷ es) (suc k) l = entry-at es k (le-of-suc-le-suc l)
 
 pub evals-set : (es : List Entry) (k : ℕ) (e : Entry) → set (evals es) k (eval e) ≡ evals (set es k e)
-evals-set [] k e = refl
-evals-set (x ∷ es) zero e = refl
-evals-set (x ∷ es) (suc k) e = ap (λ (us : List Val). eval x ∷ us) (evals-set es k e)
+evals-set es k e =
+    let into = E.the-field .into in
+    let val = E′.the-field-laws .val in
+    sym (ap (map val) (map-set into es k e) ∙ map-set val (map into es) k (into e))
 
 abbrev Each : List Entry → List Val → Type 0
 Each es us = shadow (each (E.the-field .row .Denot) (E.the-field .row .own) (map (E.the-field .into) es) us)

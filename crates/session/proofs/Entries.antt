@@ -103,15 +103,16 @@ module _ (s : SessionStruct) (m : List ℕ) (r : Regime) (a : Access) where
 
 -- ---- one entry replaced
 
-set-same : {A : Type 0} (l : List A) (i : ℕ) (d : A) → set l i (getD l i d) ≡ l
+-- an element put where it lies already
+pub set-same : {A : Type 0} (l : List A) (i : ℕ) (d : A) → set l i (getD l i d) ≡ l
 set-same [] i d = refl
 set-same (x ∷ l) zero d = refl
 set-same (x ∷ l) (suc i) d = ap (λ (t : List _). x ∷ t) (set-same l i d)
 
-map-set : (l : List EntryStruct) (i : ℕ) (e : EntryStruct) → map entryView (set l i e) ≡ set (map entryView l) i (entryView e)
-map-set [] i e = refl
-map-set (x ∷ l) zero e = refl
-map-set (x ∷ l) (suc i) e = ap (λ (t : List Entry). entryView x ∷ t) (map-set l i e)
+pub map-set : {A B : Type 0} (f : A → B) (l : List A) (i : ℕ) (e : A) → map f (set l i e) ≡ set (map f l) i (f e)
+map-set f [] i e = refl
+map-set f (x ∷ l) zero e = refl
+map-set f (x ∷ l) (suc i) e = ap (λ (t : List _). f x ∷ t) (map-set f l i e)
 
 pub kept-view : (page : ℕ) (leaf : Leaf) → leaf .left ≤ 3 → entryView (record { page = page; value = leaf .value; left = leaf .left; held = 1 }) ≡ holds page leaf
 kept-view page leaf h = rw (le-leb (leaf .left) 3 h)
@@ -131,7 +132,7 @@ module _ (s : SessionStruct) (a : Access) (e : EntryStruct) (q : getD (s .entrie
       → sessionView (withEntry s (entryFor a) x) ≡ record { regime = sessionView s .regime; entries = keep (sessionView s .entries) (ours .page r a) k }
   with-kept r x k h =
       let held : getD (sessionView s .entries) (entryFor a) empty ≡ entryView e = sym (entry-view s [] r a (ours .page r a)) ∙ ap entryView q in
-      ap (λ (l : List Entry). let t : Session = record { regime = sessionView s .regime; entries = l } in t) (map-set (s .entries) (entryFor a) x ∙ ap (set (sessionView s .entries) (entryFor a)) h ∙ keep-at (sessionView s .entries) (ours .page r a) (entryView e) held k)
+      ap (λ (l : List Entry). let t : Session = record { regime = sessionView s .regime; entries = l } in t) (map-set entryView (s .entries) (entryFor a) x ∙ ap (set (sessionView s .entries) (entryFor a)) h ∙ keep-at (sessionView s .entries) (ours .page r a) (entryView e) held k)
 
   -- past the checks, by what the entry answers
   pub hit-leaves : (m : List ℕ) (r : Regime) (reply : Reply) → some reply ≡ entryAnswer ours r a (entryView e)
