@@ -38,7 +38,7 @@ pub fn store(memory: &mut [u8], at: usize, value: u64) {
 
 #[inline(always)]
 pub fn walk(memory: &mut [u8], regime: &Regime, access: &Access) -> Answer {
-    ffi::walk(memory, *regime, *access)
+    ffi::walk(memory, regime, access)
 }
 
 /// The library's session; its fields are the library's own.
@@ -51,12 +51,12 @@ impl Session {
 
     #[inline(always)]
     pub fn set_regime(&mut self, memory: &[u8], regime: &Regime) -> u8 {
-        ffi::session_set_regime(&mut self.0, memory, *regime)
+        ffi::session_set_regime(&mut self.0, memory, regime)
     }
 
     #[inline(always)]
     pub fn access(&mut self, memory: &mut [u8], access: &Access) -> Answer {
-        ffi::session_access(&mut self.0, memory, *access)
+        ffi::session_access(&mut self.0, memory, access)
     }
 
     #[inline(always)]

@@ -6,7 +6,7 @@ use std::hint::black_box;
 use crate::boundary::{self, Access, Answer, Regime, READ};
 use crate::plain;
 
-/// The accesses of every kernel repeat after so many calls.
+/// The addresses of every kernel repeat after so many calls.
 const PERIOD: usize = 512;
 
 /// The bytes of the memory, all of them the pool.
@@ -65,9 +65,9 @@ impl Kernel {
         Kernel::ALL.into_iter().find(|kernel| kernel.name() == name)
     }
 
-    /// The access of call `i`, and again of call `i + PERIOD`.
-    fn access(self, i: u64) -> Access {
-        let address = match self {
+    /// The address of call `i`, and again of call `i + PERIOD`.
+    fn address(self, i: u64) -> u64 {
+        match self {
             // 512 pages in a scattered order.
             Kernel::Walk4 => 0x40_0abc + ((i * 37 % 512) << 12),
             // 512 blocks of 2 MiB.
@@ -76,12 +76,6 @@ impl Kernel {
             Kernel::Hit => 0x40_0abc + ((i * 37 % 64) << 12),
             // Two pages of one entry.
             _ => 0x40_0abc + ((i % 2 * 64) << 12),
-        };
-        Access {
-            address,
-            size: 4,
-            el0: 1,
-            kind: READ,
         }
     }
 }
@@ -139,11 +133,7 @@ pub fn memory() -> Vec<u8> {
 /// A memory and a session for each side.
 pub struct Bed {
     regime: Regime,
-    /// The accesses of the calls lie ready in memory. Built right before its
-    /// call, an access would be written field by field and at once copied to
-    /// the outgoing arguments in wider pieces, and each such load would wait
-    /// for the stores: a delay of the harness, on one side alone.
-    accesses: [Access; PERIOD],
+    addresses: [u64; PERIOD],
     memory: [Vec<u8>; 2],
     ours: boundary::Session,
     plain: plain::Session,
@@ -154,7 +144,7 @@ impl Bed {
     pub fn new(kernel: Kernel) -> Bed {
         let mut bed = Bed {
             regime: regime(),
-            accesses: array::from_fn(|i| kernel.access(i as u64)),
+            addresses: array::from_fn(|i| kernel.address(i as u64)),
             memory: [memory(), memory()],
             ours: boundary::Session::empty(),
             plain: plain::Session::empty(),
@@ -179,12 +169,12 @@ impl Bed {
     pub fn run(&mut self, kernel: Kernel, side: Side, calls: u64) -> u64 {
         let Bed {
             regime,
-            accesses,
+            addresses,
             memory: [memory, plain_memory],
             ours,
             plain,
         } = self;
-        let (regime, accesses) = (&*regime, &*accesses);
+        let (regime, addresses) = (&*regime, &*addresses);
         let (memory, plain_memory) = (&mut memory[..], &mut plain_memory[..]);
         match (kernel, side) {
             (Kernel::Load, Side::Ours) => offsets(calls, move |at| boundary::load(memory, at)),
@@ -198,19 +188,19 @@ impl Bed {
                 0
             }),
             (Kernel::Walk4 | Kernel::Block2, Side::Ours) => {
-                answers(calls, accesses, move |access| {
+                answers(calls, addresses, move |access| {
                     boundary::walk(memory, black_box(regime), access)
                 })
             }
             (Kernel::Walk4 | Kernel::Block2, Side::Plain) => {
-                answers(calls, accesses, move |access| {
+                answers(calls, addresses, move |access| {
                     plain::walk(plain_memory, black_box(regime), access)
                 })
             }
-            (Kernel::Hit | Kernel::Miss, Side::Ours) => answers(calls, accesses, move |access| {
+            (Kernel::Hit | Kernel::Miss, Side::Ours) => answers(calls, addresses, move |access| {
                 black_box(&mut *ours).access(memory, access)
             }),
-            (Kernel::Hit | Kernel::Miss, Side::Plain) => answers(calls, accesses, move |access| {
+            (Kernel::Hit | Kernel::Miss, Side::Plain) => answers(calls, addresses, move |access| {
                 black_box(&mut *plain).access(plain_memory, access)
             }),
             (Kernel::SetRegime, Side::Ours) => codes(calls, move || {
@@ -246,7 +236,7 @@ impl Bed {
             }
             (_, Side::Loop) => {
                 let answer = Answer::default();
-                answers(calls, accesses, move |_| *black_box(&answer))
+                answers(calls, addresses, move |_| *black_box(&answer))
             }
         }
     }
@@ -258,17 +248,21 @@ impl Bed {
 /// The checksum takes in the output, the tag and the reads of each answer;
 /// the other fields are compared in `check`, where no time is taken.
 ///
+/// Each access is filled in right before its call, as a device would.
+///
 /// Neither byte goes to the top of the sum: there the compiler would take it
 /// out of a wider load, which would wait for the byte stores of the call.
 #[inline(never)]
-fn answers(
-    calls: u64,
-    accesses: &[Access; PERIOD],
-    mut call: impl FnMut(&Access) -> Answer,
-) -> u64 {
+fn answers(calls: u64, addresses: &[u64; PERIOD], mut call: impl FnMut(&Access) -> Answer) -> u64 {
     let mut sum = 0u64;
     for i in 0..calls {
-        let answer = call(black_box(&accesses[i as usize % PERIOD]));
+        let access = Access {
+            address: addresses[i as usize % PERIOD],
+            size: black_box(4),
+            el0: black_box(1),
+            kind: black_box(READ),
+        };
+        let answer = call(black_box(&access));
         let rest = u64::from(answer.tag) << 8 | u64::from(answer.reads);
         sum = sum.rotate_left(5) ^ answer.output ^ rest << 40;
     }

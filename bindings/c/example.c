@@ -86,26 +86,26 @@ int main(void)
     access.kind = VMSA_READ;
 
     puts("plain walks");
-    print("read", vmsa_walk(memory, sizeof memory, regime, access));
+    print("read", vmsa_walk(memory, sizeof memory, &regime, &access));
     access.kind = VMSA_WRITE;
-    print("write", vmsa_walk(memory, sizeof memory, regime, access));
+    print("write", vmsa_walk(memory, sizeof memory, &regime, &access));
     access.address = 0x404ABC;
-    print("write, next page", vmsa_walk(memory, sizeof memory, regime, access));
+    print("write, next page", vmsa_walk(memory, sizeof memory, &regime, &access));
     access.address = 0x403FFD;
     print("write across two pages",
-          vmsa_walk(memory, sizeof memory, regime, access));
+          vmsa_walk(memory, sizeof memory, &regime, &access));
     printf("leaf 0x%016" PRIx64 "\n", get(LEAF));
 
     puts("session");
     access.address = 0x403ABC;
     print("write, no regime",
-          vmsa_session_access(&session, memory, sizeof memory, access));
+          vmsa_session_access(&session, memory, sizeof memory, &access));
     printf("set regime                 %d\n",
-           vmsa_session_set_regime(&session, memory, sizeof memory, regime));
+           vmsa_session_set_regime(&session, memory, sizeof memory, &regime));
     print("write",
-          vmsa_session_access(&session, memory, sizeof memory, access));
+          vmsa_session_access(&session, memory, sizeof memory, &access));
     print("write again",
-          vmsa_session_access(&session, memory, sizeof memory, access));
+          vmsa_session_access(&session, memory, sizeof memory, &access));
 
     /* Page copied: make it writable-clean again, and drop what is held. */
     printf("store                      %d\n",
@@ -113,7 +113,7 @@ int main(void)
                               get(LEAF) | AP2));
     vmsa_session_invalidate_all(&session);
     print("write, re-armed",
-          vmsa_session_access(&session, memory, sizeof memory, access));
+          vmsa_session_access(&session, memory, sizeof memory, &access));
     printf("store past the pool        %d\n",
            vmsa_session_store(&session, memory, sizeof memory,
                               POOL + VMSA_POOL_LIMIT, 0));

@@ -11,8 +11,9 @@
  * where the length is 0. A call that makes no sense is refused with a number
  * (enum vmsa_refusal) and changes neither memory nor session.
  *
- * No function keeps a pointer. Two threads may call at the same time unless
- * they share a memory or a session.
+ * A pointer to a struct may not be null, and no two pointers of one call may
+ * name the same bytes. No function keeps a pointer. Two threads may call at
+ * the same time unless they share a memory or a session.
  */
 #ifndef VMSA_H
 #define VMSA_H
@@ -25,7 +26,7 @@ extern "C" {
 #endif
 
 /* The version of this interface; vmsa_version() gives the library's. */
-#define VMSA_VERSION 1u
+#define VMSA_VERSION 2u
 
 /* The most bytes of a lent memory, and of a pool. */
 #define VMSA_MEMORY_LIMIT 1048576u
@@ -165,8 +166,8 @@ uint32_t vmsa_version(void);
  * and for any probe, no byte changes.
  */
 struct vmsa_answer vmsa_walk(uint8_t *memory, size_t length,
-                             struct vmsa_regime regime,
-                             struct vmsa_access access);
+                             const struct vmsa_regime *regime,
+                             const struct vmsa_access *access);
 
 /* The fresh session: no regime, every entry empty. */
 struct vmsa_session vmsa_session_empty(void);
@@ -174,7 +175,7 @@ struct vmsa_session vmsa_session_empty(void);
 /* Sets the regime and empties every entry. Gives 0, or the refusal. */
 uint8_t vmsa_session_set_regime(struct vmsa_session *session,
                                 const uint8_t *memory, size_t length,
-                                struct vmsa_regime regime);
+                                const struct vmsa_regime *regime);
 
 /*
  * As vmsa_walk under the session's regime, but a page held in its entry is
@@ -182,7 +183,7 @@ uint8_t vmsa_session_set_regime(struct vmsa_session *session,
  */
 struct vmsa_answer vmsa_session_access(struct vmsa_session *session,
                                        uint8_t *memory, size_t length,
-                                       struct vmsa_access access);
+                                       const struct vmsa_access *access);
 
 /*
  * Stores a descriptor at a physical address in the pool. Gives 0, or the

@@ -160,7 +160,8 @@ pub fn plain_answer(answer: &Answer) -> CAnswer {
     }
 }
 
-pub type WalkFunction = unsafe extern "C" fn(*mut u8, usize, CRegime, CAccess) -> CAnswer;
+pub type WalkFunction =
+    unsafe extern "C" fn(*mut u8, usize, *const CRegime, *const CAccess) -> CAnswer;
 
 /// The library under test.
 #[derive(Clone, Copy)]
@@ -171,8 +172,9 @@ pub struct Library {
 impl Library {
     /// # Safety
     ///
-    /// The function must touch no byte but the `length` bytes it is lent,
-    /// and must be fit to be called with any numbers in its two structs.
+    /// The function must touch no byte but the `length` bytes and the two
+    /// structs it is lent, must not write the structs, and must be fit to be
+    /// called with any numbers in them.
     pub unsafe fn new(walk: WalkFunction) -> Self {
         Library { walk }
     }
@@ -187,7 +189,7 @@ impl Library {
         let (regime, access) = (spelling.regime(regime), spelling.access(access));
         // SAFETY: pointer and length are those of one slice that is ours
         // alone for the time of the call; the rest is promised to `new`.
-        unsafe { (self.walk)(memory.as_mut_ptr(), memory.len(), regime, access) }
+        unsafe { (self.walk)(memory.as_mut_ptr(), memory.len(), &regime, &access) }
     }
 }
 
@@ -254,8 +256,8 @@ pub use layout::CSession;
 #[derive(Clone, Copy)]
 pub struct SessionFunctions {
     pub empty: unsafe extern "C" fn() -> CSession,
-    pub set_regime: unsafe extern "C" fn(*mut CSession, *const u8, usize, CRegime) -> u8,
-    pub access: unsafe extern "C" fn(*mut CSession, *mut u8, usize, CAccess) -> CAnswer,
+    pub set_regime: unsafe extern "C" fn(*mut CSession, *const u8, usize, *const CRegime) -> u8,
+    pub access: unsafe extern "C" fn(*mut CSession, *mut u8, usize, *const CAccess) -> CAnswer,
     pub store: unsafe extern "C" fn(*mut CSession, *mut u8, usize, u64, u64) -> u8,
     pub invalidate_all: unsafe extern "C" fn(*mut CSession),
 }
@@ -272,8 +274,8 @@ impl LibrarySession {
     ///
     /// # Safety
     ///
-    /// The functions must touch no byte but the session and the `length`
-    /// bytes they are lent, must write none of those lent as `*const`, and
+    /// The functions must touch no byte but the session, the `length` bytes
+    /// and the struct they are lent, must write none lent as `*const`, and
     /// must be fit to be called with any numbers and with any session that
     /// `empty` gave and the others left.
     pub unsafe fn fresh(functions: SessionFunctions) -> Self {
@@ -291,14 +293,14 @@ impl Subject for LibrarySession {
         // SAFETY: pointer and length are those of one slice that, like the
         // session, is ours alone for the time of the call; the rest is
         // promised to `fresh`.
-        unsafe { (self.functions.set_regime)(&mut self.session, start, length, regime) }
+        unsafe { (self.functions.set_regime)(&mut self.session, start, length, &regime) }
     }
 
     fn access(&mut self, memory: &mut [u8], access: &Access, spelling: Spelling) -> CAnswer {
         let (start, length) = (memory.as_mut_ptr(), memory.len());
         let access = spelling.access(access);
         // SAFETY: as for `set_regime`.
-        unsafe { (self.functions.access)(&mut self.session, start, length, access) }
+        unsafe { (self.functions.access)(&mut self.session, start, length, &access) }
     }
 
     fn store(&mut self, memory: &mut [u8], address: u64, value: u64) -> u8 {

@@ -17,19 +17,24 @@ use std::process::ExitCode;
 const DEFAULT_SEED: u64 = 0x0148_7D1E_5CA1_AB1E;
 
 extern "C" {
-    fn vmsa_walk(memory: *mut u8, length: usize, regime: CRegime, access: CAccess) -> CAnswer;
+    fn vmsa_walk(
+        memory: *mut u8,
+        length: usize,
+        regime: *const CRegime,
+        access: *const CAccess,
+    ) -> CAnswer;
     fn vmsa_session_empty() -> CSession;
     fn vmsa_session_set_regime(
         session: *mut CSession,
         memory: *const u8,
         length: usize,
-        regime: CRegime,
+        regime: *const CRegime,
     ) -> u8;
     fn vmsa_session_access(
         session: *mut CSession,
         memory: *mut u8,
         length: usize,
-        access: CAccess,
+        access: *const CAccess,
     ) -> CAnswer;
     fn vmsa_session_store(
         session: *mut CSession,

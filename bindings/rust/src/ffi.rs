@@ -125,19 +125,24 @@ const _: () = {
 
 extern "C" {
     fn vmsa_version() -> u32;
-    fn vmsa_walk(memory: *mut u8, length: usize, regime: Regime, access: Access) -> Answer;
+    fn vmsa_walk(
+        memory: *mut u8,
+        length: usize,
+        regime: *const Regime,
+        access: *const Access,
+    ) -> Answer;
     fn vmsa_session_empty() -> Session;
     fn vmsa_session_set_regime(
         session: *mut Session,
         memory: *const u8,
         length: usize,
-        regime: Regime,
+        regime: *const Regime,
     ) -> u8;
     fn vmsa_session_access(
         session: *mut Session,
         memory: *mut u8,
         length: usize,
-        access: Access,
+        access: *const Access,
     ) -> Answer;
     fn vmsa_session_store(
         session: *mut Session,
@@ -151,14 +156,15 @@ extern "C" {
 
 // What makes each call below sound: the structs have the library's layout (the
 // asserts above), a slice is a pointer and its length, and the library takes
-// any value, stays inside the slice and the session, and keeps no pointer.
+// any value, stays inside the slice and the structs, writes none that is lent
+// as `*const`, and keeps no pointer.
 
 pub fn version() -> u32 {
     // SAFETY: takes nothing.
     unsafe { vmsa_version() }
 }
 
-pub fn walk(memory: &mut [u8], regime: Regime, access: Access) -> Answer {
+pub fn walk(memory: &mut [u8], regime: &Regime, access: &Access) -> Answer {
     // SAFETY: the pointer and length are those of a slice lent to this call.
     unsafe { vmsa_walk(memory.as_mut_ptr(), memory.len(), regime, access) }
 }
@@ -168,13 +174,13 @@ pub fn session_empty() -> Session {
     unsafe { vmsa_session_empty() }
 }
 
-pub fn session_set_regime(session: &mut Session, memory: &[u8], regime: Regime) -> u8 {
+pub fn session_set_regime(session: &mut Session, memory: &[u8], regime: &Regime) -> u8 {
     // SAFETY: as for `walk`; the session is lent to this call alone, and the
     // memory is only read.
     unsafe { vmsa_session_set_regime(session, memory.as_ptr(), memory.len(), regime) }
 }
 
-pub fn session_access(session: &mut Session, memory: &mut [u8], access: Access) -> Answer {
+pub fn session_access(session: &mut Session, memory: &mut [u8], access: &Access) -> Answer {
     // SAFETY: as for `walk`; the session is lent to this call alone.
     unsafe { vmsa_session_access(session, memory.as_mut_ptr(), memory.len(), access) }
 }

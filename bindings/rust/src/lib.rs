@@ -69,7 +69,7 @@ pub const MEMORY_LIMIT: usize = 1_048_576;
 pub const POOL_LIMIT: usize = 65_536;
 
 /// The version of the C interface that this crate speaks.
-pub const VERSION: u32 = 1;
+pub const VERSION: u32 = 2;
 
 /// The version of the library that is linked in; to be [`VERSION`].
 pub fn version() -> u32 {
@@ -93,5 +93,5 @@ pub fn version() -> u32 {
 /// );
 /// ```
 pub fn walk(memory: &mut [u8], regime: &Regime, access: &Access) -> Answer {
-    ffi::walk(memory, ffi::Regime::from(regime), ffi::Access::from(access)).into()
+    ffi::walk(memory, &regime.into(), &access.into()).into()
 }

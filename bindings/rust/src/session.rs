@@ -67,7 +67,7 @@ impl Session {
         accepted(ffi::session_set_regime(
             &mut self.words,
             memory,
-            regime.into(),
+            &regime.into(),
         ))
     }
 
@@ -77,7 +77,7 @@ impl Session {
     ///
     /// A fault; or [`Refusal`] 9, 1, 6 or 7, checked in that order.
     pub fn access(&mut self, memory: &mut [u8], access: &Access) -> Answer {
-        ffi::session_access(&mut self.words, memory, access.into()).into()
+        ffi::session_access(&mut self.words, memory, &access.into()).into()
     }
 
     /// Stores a descriptor at a physical address in the pool. No entry

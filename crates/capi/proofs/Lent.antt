@@ -2,6 +2,7 @@
 --     sval s                the machine value of the session s.        IsAt s v    v is the machine value of s, as is known of a session that is owned
 --     lent s, Lent s        a `&mut Session` at the session s, and what it owns.        Cell v, Open h    once it is open: the session's cell, and the borrow, which was at h
 --     opened, closed        it is opened, and closed at the session that then lies in the cell
+--     apart, together       at entry, the tokens and what three references own, one beside the other; at exit, the three tokens as one
 --     hands                 what a callee asks: what its first parameter owns, what the others own, and their tokens
 --     freed                 at the return, a local at the head of the context is given back, whatever it holds
 --     meets                 from a walk of a function to its theorem; `proved` where it calls one other
@@ -102,6 +103,12 @@ module _ {M : Type 1} {𝓤 : URA M} {H : Heap 𝓤} {A : Atoms 𝓤} {K : Type 
   closed t z κ q b o γ h s v is = step (λ k.
       move t (1 ∷ []) $ fsplit3 t $ owned t S.the-row (Is S.the-row) (LL.makes S.the-type S′.the-plain 𝓤 H A) s (v ∷ []) is $ move t (4 ∷ 0 ∷ []) $ closes t z S.the-row s (v ∷ []) b o $
       feqI t (List Val) (vptr b o ∷ []) (vptr b o ∷ []) refl $ fjoin3 t $ k)
+
+  pub apart : K → {P Q R : Fml} {i j k : Item 𝓤} → Step K W (‵ P ∷ i ∷ ‵ Q ∷ j ∷ ‵ R ∷ k ∷ Γ) G ((i ⊛ (j ⊛ (k ⊛ ‵ ftrue))) ∷ ‵ (fsep P (fsep Q (fsep R ftrue))) ∷ Γ) G
+  apart t = step (λ s. split t $ move t (1 ∷ []) $ split t $ move t (1 ∷ []) $ split t $ move t (4 ∷ []) $ fsplit t $ move t (1 ∷ []) $ fsplit t $ move t (1 ∷ []) $ fsplit t $ move t (1 ∷ []) $ drop t $ move t (4 ∷ []) $ drop t $ move t (2 ∷ 5 ∷ 1 ∷ 4 ∷ 0 ∷ 3 ∷ []) $ s)
+
+  pub together : K → {i j k : Item 𝓤} → Step K W ((i ⊛ (j ⊛ (k ⊛ ‵ ftrue))) ∷ Γ) G (i ∷ j ∷ k ∷ Γ) G
+  together t = step (λ s. nothing t $ move t (3 ∷ 0 ∷ []) $ join t $ move t (2 ∷ 0 ∷ []) $ join t $ move t (1 ∷ 0 ∷ []) $ join t $ s)
 
   pub hands : K → {P Q : Fml} {i : Item 𝓤} → Step K W (raw (sep 𝓤 (sep 𝓤 (mean 𝓤 H A i) (sem 𝓤 H A (fsep P Q))) (emp 𝓤)) ∷ Γ) G (‵ P ∷ ‵ Q ∷ i ∷ Γ) G
   hands t {P} {Q} {i} = use3 W (raw (sep 𝓤 (sep 𝓤 (mean 𝓤 H A i) (sem 𝓤 H A (fsep P Q))) (emp 𝓤))) (qed W (‵ P ∷ ‵ Q ∷ i ∷ []) ∵ fjoin ! $ move ! (1 ∷ 0 ∷ []) $ join ! $ frame ! $ done !)

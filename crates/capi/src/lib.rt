@@ -16,11 +16,11 @@ use words::AccessWords;
 use words::AnswerWords;
 
 // The version of this interface.
-pub const VERSION: u32 = 1;
+pub const VERSION: u32 = 2;
 
 #[no_mangle]
 pub extern "C" fn vmsa_version() -> u32
-    ensures { λ r. ⌜ r ≡ 1 ⌝ }
+    ensures { λ r. ⌜ r ≡ 2 ⌝ }
 {
     VERSION
 }
@@ -29,11 +29,13 @@ pub extern "C" fn vmsa_version() -> u32
 #[no_mangle]
 pub extern "C" fn vmsa_walk(
     memory: &mut [u8],
-    regime: RegimeWords,
-    access: AccessWords,
+    regime: &RegimeWords,
+    access: &AccessWords,
 ) -> AnswerWords
-    ensures { λ w. ⌜ told w (now (memory .exit)) ≡ walkTold (regimeOf regime) (accessOf access) (now (memory .entry)) ⌝ }
+    ensures { λ w. ⌜ told w (now (memory .exit)) ≡ walkTold (regimeOf (now (regime .entry))) (accessOf (now (access .entry))) (now (memory .entry)) ⌝ }
 {
+    let regime = *regime;
+    let access = *access;
     words::walk_words(memory, regime, access)
 }
 
@@ -50,10 +52,11 @@ pub extern "C" fn vmsa_session_empty() -> Session
 pub extern "C" fn vmsa_session_set_regime(
     session: &mut Session,
     memory: &[u8],
-    regime: RegimeWords,
+    regime: &RegimeWords,
 ) -> u8
-    ensures { λ n. ⌜ changed (now (session .exit)) (now (memory .entry)) n ≡ changedBy (setCall ours (sessionView (now (session .entry))) (now (memory .entry)) (regimeOf regime)) ⌝ }
+    ensures { λ n. ⌜ changed (now (session .exit)) (now (memory .entry)) n ≡ changedBy (setCall ours (sessionView (now (session .entry))) (now (memory .entry)) (regimeOf (now (regime .entry)))) ⌝ }
 {
+    let regime = *regime;
     let x = words::set_words(memory.len(), regime);
     if x.refusal != 0 {
         return x.refusal;
@@ -70,10 +73,11 @@ pub extern "C" fn vmsa_session_set_regime(
 pub extern "C" fn vmsa_session_access(
     session: &mut Session,
     memory: &mut [u8],
-    access: AccessWords,
+    access: &AccessWords,
 ) -> AnswerWords
-    ensures { λ w. ⌜ accessed (now (session .exit)) (now (memory .exit)) w ≡ accessedBy (accessCall ours (sessionView (now (session .entry))) (now (memory .entry)) (accessOf access)) ⌝ }
+    ensures { λ w. ⌜ accessed (now (session .exit)) (now (memory .exit)) w ≡ accessedBy (accessCall ours (sessionView (now (session .entry))) (now (memory .entry)) (accessOf (now (access .entry)))) ⌝ }
 {
+    let access = *access;
     let i = words::entry_of(access);
     let entry = session.entries[i];
     let hit = words::hit_entry(session.regime, session.set, entry, memory.len(), access);

@@ -48,12 +48,12 @@ fn memory() -> Vec<u8> {
 }
 
 fn ask(regime: Regime, access: Access) -> Answer {
-    walk(&mut memory(), regime, access)
+    walk(&mut memory(), &regime, &access)
 }
 
 fn session(regime: Regime) -> Session {
     let mut session = session_empty();
-    assert_eq!(session_set_regime(&mut session, &memory(), regime), 0);
+    assert_eq!(session_set_regime(&mut session, &memory(), &regime), 0);
     session
 }
 
@@ -141,7 +141,7 @@ fn kinds_above_5() {
         memory
     };
     let regime = Regime { hd: 0, ..REGIME };
-    let answer = |kind| walk(&mut read_only.clone(), regime, probe(kind));
+    let answer = |kind| walk(&mut read_only.clone(), &regime, &probe(kind));
     assert_eq!(answer(4).tag, 0);
     assert_eq!(answer(5).code, 15);
     for kind in 6..=255 {
@@ -164,9 +164,9 @@ fn null_where_the_length_is_0() {
     let mut session = session(REGIME);
     // SAFETY: a null pointer is allowed where the length is 0.
     unsafe {
-        assert_eq!(vmsa_walk(null, 0, REGIME, READ).refusal, 1);
-        assert_eq!(vmsa_session_set_regime(&mut session, null, 0, REGIME), 1);
-        assert_eq!(vmsa_session_access(&mut session, null, 0, READ).refusal, 1);
+        assert_eq!(vmsa_walk(null, 0, &REGIME, &READ).refusal, 1);
+        assert_eq!(vmsa_session_set_regime(&mut session, null, 0, &REGIME), 1);
+        assert_eq!(vmsa_session_access(&mut session, null, 0, &READ).refusal, 1);
         assert_eq!(vmsa_session_store(&mut session, null, 0, POOL, 0), 1);
     }
 }
@@ -230,10 +230,10 @@ fn session_uses_each_regime_field() {
     let over = |regime, access| {
         let mut plain = memory.clone();
         let mut ours = memory.clone();
-        let answer = walk(&mut plain, regime, access);
+        let answer = walk(&mut plain, &regime, &access);
         let mut crafted = session(REGIME);
         crafted.regime = regime;
-        assert_eq!(session_access(&mut crafted, &mut ours, access), answer);
+        assert_eq!(session_access(&mut crafted, &mut ours, &access), answer);
         assert!(plain == ours);
         answer
     };
@@ -270,7 +270,7 @@ fn session_uses_each_regime_field() {
 fn session_keeps_each_entry_field() {
     let mut memory = memory();
     let mut session = session(REGIME);
-    let answer = session_access(&mut session, &mut memory, WRITE);
+    let answer = session_access(&mut session, &mut memory, &WRITE);
     assert_eq!((answer.tag, answer.reads), (0, 4));
     let page = 0x403;
     for (i, entry) in session.entries.iter().enumerate() {
@@ -288,7 +288,7 @@ fn session_keeps_each_entry_field() {
     for (offset, left) in [(0x2010, 1), (0x1000, 2)] {
         put(&mut memory, offset, 0xc000_0641);
         session_invalidate_all(&mut session);
-        session_access(&mut session, &mut memory, READ);
+        session_access(&mut session, &mut memory, &READ);
         let entry = session.entries[page % ENTRIES];
         assert_eq!((entry.value, entry.left), (0xc000_0641, left));
     }
@@ -318,7 +318,7 @@ fn session_uses_each_entry_field() {
         ..READ
     };
     for i in 0..64 {
-        let answer = session_access(&mut session, &mut memory, access(0x1_0000 + i));
+        let answer = session_access(&mut session, &mut memory, &access(0x1_0000 + i));
         assert_eq!(answer.output, 0x7000_0000_0678 + (i << 39));
         assert_eq!((answer.tag, answer.level, answer.reads), (0, 3, 0));
     }
@@ -327,7 +327,7 @@ fn session_uses_each_entry_field() {
     let held = session.entries[5];
     let mut with = |entry| {
         session.entries[5] = entry;
-        session_access(&mut session, &mut memory, access(0x1_0005))
+        session_access(&mut session, &mut memory, &access(0x1_0005))
     };
     let walked = with(Entry { held: 0, ..held });
     assert_eq!((walked.tag, walked.code, walked.reads), (1, 6, 3));
@@ -351,7 +351,7 @@ fn session_set_byte() {
     let mut session = session(REGIME);
     session.set = 0;
     assert_eq!(
-        session_access(&mut session, &mut memory, READ),
+        session_access(&mut session, &mut memory, &READ),
         Answer {
             tag: 2,
             refusal: 9,
@@ -361,7 +361,7 @@ fn session_set_byte() {
     assert_eq!(session_store(&mut session, &mut memory, POOL, 0), 9);
     for set in 1..=255 {
         session.set = set;
-        let answer = session_access(&mut session, &mut memory, READ);
+        let answer = session_access(&mut session, &mut memory, &READ);
         assert_eq!(answer.output, 0x8000_5abc);
     }
 }
@@ -425,7 +425,7 @@ fn any_bytes_are_a_session() {
             el0: next(&mut state) as u8,
             kind: next(&mut state) as u8,
         };
-        let answer = session_access(&mut session, &mut memory, access);
+        let answer = session_access(&mut session, &mut memory, &access);
         answers[usize::from(answer.tag)] += 1;
         let address = POOL + (next(&mut state) & 0x3fff);
         session_store(&mut session, &mut memory, address & !7, 0);

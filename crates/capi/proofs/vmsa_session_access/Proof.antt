@@ -30,9 +30,9 @@ use denote.Laws.{Is, shows}
 use denote.Plain.{uint-makes, uint-lawful, uint-tells}
 use denote.Builtin.{u8, usize}
 use denote.Index.{place-is}
-use denote.Ref.{RefT, MutRef, ptr-vals, mut-tells}
+use denote.Ref.{RefT, MutRef, ShrRef, ptr-vals, mut-tells, shr-tells}
 use denote.Slice.{sliceVal, MutSlice, Room, finally, slice-vals, mut-slice-tells}
-use denote.Signature.{plain}
+use denote.Signature.{plain, shrRefTo}
 use denote.Steps.{only, owned, peeks, heard, nothing}
 use denote.Struct.Declared.{shape}
 use denote.Struct.Laws as LL
@@ -82,15 +82,16 @@ use Rattle.words.proofs.access_entry.Symbol as walk-def
 use Rattle.words.proofs.access_entry.Symbol.{name as #walk}
 use Rattle.words.proofs.access_entry.Met as walk-thm
 use Rattle.capi.proofs.Element.{item}
-use Rattle.capi.proofs.Lent.{sval, IsAt, lent, Lent, opened, closed, hands, freed, meets, forks, eval, rval, evals, laidTy, laid, entry-at, evals-set, sixty-four, evals-long, entry-is, put-is, given-up}
+use Rattle.capi.proofs.Shared.{looked, shut}
+use Rattle.capi.proofs.Lent.{sval, IsAt, lent, Lent, opened, closed, apart, together, hands, freed, meets, forks, eval, rval, evals, laidTy, laid, entry-at, evals-set, sixty-four, evals-long, entry-is, put-is, given-up}
 use Rattle.capi.proofs.vmsa_session_access.Key.{name as #this}
 use Rattle.capi.proofs.vmsa_session_access as this
 use Rattle.capi.proofs.vmsa_session_access.Statement as stated
 use Rattle.capi.proofs.vmsa_session_access.Code as code
 
--- what is had of each parameter at exit: the borrow of the session, what says the memory's last bytes, and nothing of the access
+-- what is had of each parameter at exit: the borrow of the session, what says the memory's last bytes, and nothing of the access's borrow
 abbrev stayed : Stays (this.ended .signature .params) (this.ended .kept)
-stayed = (stay-ref (0 ∷ []) tt (plain (λ _. S.the-row)), (gave-slice (1 ∷ []) tt (plain (λ _. u8)), (stay-dropped (plain (λ _. G.the-row)) yes, tt)))
+stayed = (stay-ref (0 ∷ []) tt (plain (λ _. S.the-row)), (gave-slice (1 ∷ []) tt (plain (λ _. u8)), (stay-dropped (shrRefTo (2 ∷ []) tt (plain (λ _. G.the-row))) yes, tt)))
 
 -- the machine values of an access and of an answer
 abbrev gval : AccessWords → Val
@@ -137,38 +138,42 @@ module _ {M : Type 1} (𝓤 : URA M) (H : Heap 𝓤) (A : Atoms 𝓤) (at-mem : 
   abbrev WalkC : Contract 𝓤
   WalkC = tripleOf 𝓤 H A walk.signature (walk.spec 𝓤 H A at-mem run)
 
-module _ {M : Type 1} (𝓤 : URA M) (H : Heap 𝓤) (A : Atoms 𝓤) (W : Given 𝓤 H A) (at-mem : Memory → SProp 𝓤) (run : Routine → Fun 𝓤) (κ κ′ : Lft) (q q′ : Share) (b o : ℕ) (γ : GName) (h : Session) (b′ o′ : ℕ) (γ′ : GName) (m : List ℕ) (g : AccessWords) where
-  -- the parameters beside the session, and their machine values
-  abbrev Others : Type 0
-  Others = RefT (List ℕ) × (AccessWords × Unit {0})
+module _ {M : Type 1} (𝓤 : URA M) (H : Heap 𝓤) (A : Atoms 𝓤) (W : Given 𝓤 H A) (at-mem : Memory → SProp 𝓤) (run : Routine → Fun 𝓤) (κ κ′ κ″ : Lft) (q q′ q″ : Share) (b o : ℕ) (γ : GName) (h : Session) (b′ o′ : ℕ) (γ′ : GName) (m : List ℕ) (asked : RefT AccessWords) where
+  abbrev g : AccessWords
+  g = asked .now
 
-  abbrev others : Others
-  others = (record { ptr = (b′, o′); name = γ′; now = m }, (g, tt))
+  abbrev memory : RefT (List ℕ)
+  memory = record { ptr = (b′, o′); name = γ′; now = m }
 
   abbrev slice : Val
   slice = sliceVal (b′, o′) (length m)
 
+  -- the memory and the access, as `access_entry` takes them, and their machine values
+  abbrev others : RefT (List ℕ) × (AccessWords × Unit {0})
+  others = (memory, (g, tt))
+
   abbrev vals : List Val × (List Val × Unit {0})
   vals = (slice ∷ [], (gval g ∷ [], tt))
 
-  abbrev Arg : Type 0
-  Arg = RefT Session × Others
+  -- the parameters, and their machine values
+  abbrev a : RefT Session × (RefT (List ℕ) × (RefT AccessWords × Unit {0}))
+  a = (lent b o γ h, (memory, (asked, tt)))
 
-  abbrev a : Arg
-  a = (lent b o γ h, others)
+  abbrev at : List Val × (List Val × (List Val × Unit {0}))
+  at = (vptr b o ∷ [], (slice ∷ [], (ptr-vals asked, tt)))
 
   abbrev Post : Val → SProp 𝓤
-  Post = walkOf 𝓤 H A this.ended stayed (this.clauses 𝓤 H A at-mem run) .post (((κ, (κ′, tt)), (q, (q′, tt)), tt, a, (vptr b o ∷ [], vals)), tt)
+  Post = walkOf 𝓤 H A this.ended stayed (this.clauses 𝓤 H A at-mem run) .post (((κ, (κ′, (κ″, tt))), (q, (q′, (q″, tt))), tt, a, at), tt)
 
   -- what is had at exit: the session's borrow, at the new session, the tokens, and the memory's last bytes
   abbrev Had : Session → List ℕ → List (Item 𝓤)
-  Had s l = ‵ (Lent b o κ γ s) ∷ ‵ (flft κ q) ∷ (‵ (flft κ′ q′) ⊛ ‵ ftrue) ∷ ‵ (finally u8 γ′ l) ∷ []
+  Had s l = ‵ (Lent b o κ γ s) ∷ ‵ (flft κ q) ∷ (‵ (flft κ′ q′) ⊛ ‵ ftrue) ∷ ‵ (finally u8 γ′ l) ∷ ‵ (flft κ″ q″) ∷ []
 
   exits : (s : Session) (l : List ℕ) (w : AnswerWords) → Answered h m g s l w → length l ≡ length m → IsAnswer w → ent 𝓤 (⋆ 𝓤 H A (Had s l)) (Post (nval w))
   exits s l w e long is =
       qed W (Had s l) ∵
-      suffices ! _ (ends-at 𝓤 H A this.ended stayed (this.clauses 𝓤 H A at-mem run) W (((κ, (κ′, tt)), (q, (q′, tt)), tt, a, (vptr b o ∷ [], vals)), tt) (nval w) w (s, (l, (tt, tt))) (tt, (long, (tt, tt)))) $ says ! e $
-      move ! (1 ∷ 2 ∷ []) $ join ! $ frame ! $ nothing ! $ nothing ! $ fjoin ! $ move ! (2 ∷ 0 ∷ []) $ fjoin ! $ move ! (1 ∷ 0 ∷ []) $ fjoin ! $ frame ! $ owned ! N.the-row (Is N.the-row) (LL.makes N.the-type N′.the-plain 𝓤 H A) w _ is $ done !
+      suffices ! _ (ends-at 𝓤 H A this.ended stayed (this.clauses 𝓤 H A at-mem run) W (((κ, (κ′, (κ″, tt))), (q, (q′, (q″, tt))), tt, a, at), tt) (nval w) w (s, (l, (tt, tt))) (tt, (long, (tt, tt)))) $ says ! e $
+      move ! (2 ∷ []) $ split ! $ move ! (3 ∷ 0 ∷ 5 ∷ []) $ together ! $ frame ! $ drop ! $ nothing ! $ nothing ! $ fjoin ! $ move ! (2 ∷ 0 ∷ []) $ fjoin ! $ move ! (1 ∷ 0 ∷ []) $ fjoin ! $ frame ! $ owned ! N.the-row (Is N.the-row) (LL.makes N.the-type N′.the-plain 𝓤 H A) w _ is $ done !
 
   -- ---- the calls: what each triple binds outside, and what it asks
   abbrev to-number : NumberC 𝓤 H A at-mem run .Ghost
@@ -209,78 +214,82 @@ module _ {M : Type 1} (𝓤 : URA M) (H : Heap 𝓤) (A : Atoms 𝓤) (W : Given
         owned ! R.the-row (Is R.the-row) (LL.makes R.the-type R′.the-plain 𝓤 H A) (h .regime) _ regime-is $ fjoin ! $ nothing ! $ join ! $ frame ! $ done !
 
   module _ (C : Calls 𝓤 H) (Λ : Loops 𝓤 H) (fm : FmC 𝓤 H (W .laws) C) (known-number : Triple 𝓤 (C #number) (NumberC 𝓤 H A at-mem run)) (known-hit : Triple 𝓤 (C #hit) (HitC 𝓤 H A at-mem run)) (known-walk : Triple 𝓤 (C #walk) (WalkC 𝓤 H A at-mem run)) where
-    steps : Room u8 (length m) → Is G.the-row g (gval g ∷ [])
-        → ent 𝓤 (onEntry 𝓤 H A this.signature (κ, (κ′, tt)) (q, (q′, tt)) a (vptr b o ∷ [], vals)) (WpFn 𝓤 H C Λ code.function (vptr b o ∷ slice ∷ gval g ∷ []) Post)
-    steps room ig =
-        qed W ((‵ (flft κ q) ⊛ (‵ (flft κ′ q′) ⊛ ‵ ftrue)) ∷ ‵ (owns (MutRef (named 0) κ S.the-row ∷ MutSlice (named 1) κ′ u8 ∷ G.the-row ∷ []) a (vptr b o ∷ [], vals)) ∷ []) ∵ split ! $ move ! (2 ∷ []) $ fsplit ! $ move ! (0 ∷ 2 ∷ []) $
-        -- [what the session's borrow owns; its token; what the others own; their token]
-        enter ! C Λ code.function (vptr b o ∷ slice ∷ gval g ∷ []) _ $
-        alloc1 ! (λ l₀. alloc1 ! (λ l₁. alloc1 ! (λ l₂. alloc1 ! (λ l₃. alloc1 ! (λ l₄. alloc1 ! (λ l₅. alloc1 ! (λ l₆. alloc1 ! (λ l₇. alloc1 ! (λ l₈. alloc1 ! (λ l₉. alloc1 ! (λ l₁₀. alloc1 ! (λ l₁₁. alloc1 ! (λ l₁₂. alloc1 ! (λ l₁₃. alloc1 ! (λ l₁₄. alloc1 ! (λ l₁₅. alloc1 ! (λ l₁₆. alloc1 ! (λ l₁₇. alloc1 ! (λ l₁₈. alloc0 ! $ params1 ! $
-        pass1 ! (init ! 34 refl (tt, tt)) $ pass1 ! (init ! 32 refl (tt, (tt, (record { fits = room .0 }, tt)))) $ pass1 ! (init ! 30 refl (LL.lawful G.the-type G′.the-laws 𝓤 H A W .typed g _ ig .0)) $ pass0 ! $
-        move ! (38 ∷ 39 ∷ []) $ opened ! tt κ q b o γ h (λ is. drop ! $
+    steps : Room u8 (length m) → ent 𝓤 (onEntry 𝓤 H A this.signature (κ, (κ′, (κ″, tt))) (q, (q′, (q″, tt))) a at) (WpFn 𝓤 H C Λ code.function (vptr b o ∷ slice ∷ vptr (asked .ptr .0) (asked .ptr .1) ∷ []) Post)
+    steps room =
+        qed W ((‵ (flft κ q) ⊛ (‵ (flft κ′ q′) ⊛ (‵ (flft κ″ q″) ⊛ ‵ ftrue))) ∷ ‵ (owns (MutRef (named 0) κ S.the-row ∷ MutSlice (named 1) κ′ u8 ∷ ShrRef (named 2) κ″ G.the-row ∷ []) a at) ∷ []) ∵
+        apart ! $
+        -- [what the session's borrow owns; its token; what the memory's owns; its token; what the access's owns; its token]
+        enter ! C Λ code.function (vptr b o ∷ slice ∷ vptr (asked .ptr .0) (asked .ptr .1) ∷ []) _ $
+        alloc1 ! (λ l₀. alloc1 ! (λ l₁. alloc1 ! (λ l₂. alloc1 ! (λ l₃. alloc1 ! (λ l₄. alloc1 ! (λ l₅. alloc1 ! (λ l₆. alloc1 ! (λ l₇. alloc1 ! (λ l₈. alloc1 ! (λ l₉. alloc1 ! (λ l₁₀. alloc1 ! (λ l₁₁. alloc1 ! (λ l₁₂. alloc1 ! (λ l₁₃. alloc1 ! (λ l₁₄. alloc1 ! (λ l₁₅. alloc1 ! (λ l₁₆. alloc1 ! (λ l₁₇. alloc1 ! (λ l₁₈. alloc1 ! (λ l₁₉. alloc0 ! $ params1 ! $
+        pass1 ! (init ! 36 refl (tt, tt)) $ pass1 ! (init ! 34 refl (tt, (tt, (record { fits = room .0 }, tt)))) $ pass1 ! (init ! 32 refl (tt, tt)) $ pass0 ! $
+        -- the access is read, and its borrow shut again
+        move ! (44 ∷ 45 ∷ []) $ looked G.the-type G′.the-laws ! tt G′.the-copy (named 2) κ″ q″ asked (λ s ig.
+        assigns ! (of-opd ! (load ! (from ! (hop ! (look ! 34 refl) (stop !))) (look ! 0 refl))) (from ! (stop !)) (init ! 32 refl (LL.lawful G.the-type G′.the-laws 𝓤 H A W .typed g _ ig .0)) $
+        shut G.the-type G′.the-laws ! tt G′.the-plain κ″ q″ s asked ig $
+        move ! (41 ∷ 42 ∷ 1 ∷ 2 ∷ 3 ∷ 4 ∷ 5 ∷ 6 ∷ 7 ∷ 8 ∷ 9 ∷ 10 ∷ 11 ∷ 12 ∷ 13 ∷ 14 ∷ 15 ∷ 16 ∷ 17 ∷ 18 ∷ 19 ∷ 20 ∷ 21 ∷ 22 ∷ 23 ∷ 24 ∷ 25 ∷ 26 ∷ 27 ∷ 28 ∷ 29 ∷ 30 ∷ 31 ∷ 32 ∷ 33 ∷ 34 ∷ 35 ∷ 36 ∷ 37 ∷ 38 ∷ 39 ∷ 40 ∷ 43 ∷ []) $ opened ! tt κ q b o γ h (λ is. drop ! $
         use1 W (‵ (fat fullShare laidTy b o (laid (h .regime) (evals (h .entries)) (h .set)))) (W .laws .raw-at fullShare laidTy b o (laid (h .regime) (evals (h .entries)) (h .set))) $
-        -- [the session's cell; the open borrow; _18; …; _0; …; what the others own; their token]
+        -- [the session's cell; the open borrow; _19; …; _0; …; what the memory's borrow owns; the access's token; the memory's]
         -- the number of the page's entry
         use0 W (raw (NumberC 𝓤 H A at-mem run .pre to-number)) (goes-number ig) $
         calls-at ! fm (NumberC 𝓤 H A at-mem run) known-number to-number (and-then ! (load ! (from ! (stop !)) (look ! 33 refl)) (no-more !)) (λ v.
         use1 W (later (some (λ (i : ℕ). (‵ ftrue ⊛ ‵ (usize .own i (v ∷ []))) ⊛ raw (ensured 𝓤 H A number.ended (number.clauses 𝓤 H A at-mem run) tt (g, tt) tt i)))) (id⊢ 𝓤 _) $ await ! tt $ pick ! (λ i.
         split ! $ move ! (1 ∷ []) $ use1 W (raw (fact 𝓤 (Number g i))) (number-told i) $ heard ! (Number g i) (λ en. split ! $ drop ! $ peeks ! usize (Is usize) (shows 𝓤 H A usize) i (v ∷ []) (λ iv.
-        land ! (from ! (stop !)) (init ! 31 refl (uint-lawful 𝓤 H A W w64 .typed i _ iv .0)) $ rewrite ! 31 (λ (u : Val). ‵ (fat fullShare (tyInt w64) l₄ 0 u)) (ap only (uint-tells w64 i (v ∷ []) iv)) refl $ drop ! $
+        land ! (from ! (stop !)) (init ! 31 refl (uint-lawful 𝓤 H A W w64 .typed i _ iv .0)) $ rewrite ! 31 (λ (u : Val). ‵ (fat fullShare (tyInt w64) l₅ 0 u)) (ap only (uint-tells w64 i (v ∷ []) iv)) refl $ drop ! $
         -- the entry, the regime and whether it is set are read where they lie
         assigns ! (bin ! (load ! (from ! (stop !)) (look ! 30 refl)) (lit ! tt) (record { fits = far i (en .1) })) (from ! (stop !)) (init ! 22 refl (tt, record { fits = far i (en .1) })) $
-        assigns ! (addr ! (from ! (hop ! (look ! 36 refl) (fld ! refl (stop !))))) (from ! (stop !)) (init ! 20 refl (tt, tt)) $
+        assigns ! (addr ! (from ! (hop ! (look ! 38 refl) (fld ! refl (stop !))))) (from ! (stop !)) (init ! 20 refl (tt, tt)) $
         assigns ! (bin ! (load ! (from ! (stop !)) (look ! 20 refl)) (load ! (from ! (stop !)) (look ! 22 refl)) tt) (from ! (stop !)) (init ! 18 refl (tt, tt)) $
-        rewrite ! 18 (λ (p : ℕ). ‵ (fat fullShare tyPtr l₁₀ 0 (vptr b p))) (sym (place-is 24 (o + 56) i)) refl $
+        rewrite ! 18 (λ (p : ℕ). ‵ (fat fullShare tyPtr l₁₁ 0 (vptr b p))) (sym (place-is 24 (o + 56) i)) refl $
         assigns ! (of-opd ! (load ! (from ! (hop ! (look ! 18 refl) (stop !))) (look-in ! 0 (item ! entryCount (evals (h .entries)) i (within i is (en .1)) (evals-long h is) (sub ! 1 refl (whole !)))))) (from ! (stop !)) (init ! 16 refl (read-typed i is (en .1))) $
-        rewrite ! 16 (λ (u : Val). ‵ (fat fullShare E′.mir l₁₁ 0 u)) (entry-at (h .entries) i (inside i is (en .1))) refl $
+        rewrite ! 16 (λ (u : Val). ‵ (fat fullShare E′.mir l₁₂ 0 u)) (entry-at (h .entries) i (inside i is (en .1))) refl $
         assigns ! (of-opd ! (load ! (from ! (stop !)) (look ! 16 refl))) (from ! (stop !)) (init ! 28 refl (entry-typed i is (en .1))) $
-        assigns ! (of-opd ! (load ! (from ! (hop ! (look ! 36 refl) (fld ! refl (stop !)))) (look-in ! 0 (sub ! 0 refl (whole !))))) (from ! (stop !)) (init ! 14 refl (regime-typed room ig is)) $
-        assigns ! (of-opd ! (load ! (from ! (hop ! (look ! 36 refl) (fld ! refl (stop !)))) (look-in ! 0 (sub ! 2 refl (whole !))))) (from ! (stop !)) (init ! 12 refl (set-typed room ig is)) $
-        assigns ! (of-opd ! (load ! (from ! (fld ! refl (stop !))) (look-in ! 34 (sub ! 1 refl (whole !))))) (from ! (stop !)) (store ! 22 refl (tt, record { fits = room .0 })) $
+        assigns ! (of-opd ! (load ! (from ! (hop ! (look ! 38 refl) (fld ! refl (stop !)))) (look-in ! 0 (sub ! 0 refl (whole !))))) (from ! (stop !)) (init ! 14 refl (regime-typed room ig is)) $
+        assigns ! (of-opd ! (load ! (from ! (hop ! (look ! 38 refl) (fld ! refl (stop !)))) (look-in ! 0 (sub ! 2 refl (whole !))))) (from ! (stop !)) (init ! 12 refl (set-typed room ig is)) $
+        assigns ! (of-opd ! (load ! (from ! (fld ! refl (stop !))) (look-in ! 36 (sub ! 1 refl (whole !))))) (from ! (stop !)) (store ! 22 refl (tt, record { fits = room .0 })) $
         -- `hit_entry`
         use0 W (raw (HitC 𝓤 H A at-mem run .pre (to-hit (held i)))) (goes-hit room ig is (held i) (entry-is h is i (en .1))) $
         calls-at ! fm (HitC 𝓤 H A at-mem run) known-hit (to-hit (held i)) (and-then ! (load ! (from ! (stop !)) (look ! 15 refl)) (and-then ! (load ! (from ! (stop !)) (look ! 13 refl)) (and-then ! (load ! (from ! (stop !)) (look ! 29 refl)) (and-then ! (load ! (from ! (stop !)) (look ! 23 refl)) (and-then ! (load ! (from ! (stop !)) (look ! 33 refl)) (no-more !)))))) (λ u.
         use1 W (later (some (λ (x : Hit). (‵ ftrue ⊛ ‵ (J.the-row .own x (u ∷ []))) ⊛ raw (ensured 𝓤 H A hit.ended (hit.clauses 𝓤 H A at-mem run) tt (h .regime, (h .set, (held i, (length m, (g, tt))))) tt x)))) (id⊢ 𝓤 _) $ await ! tt $ pick ! (λ x.
         split ! $ move ! (1 ∷ []) $ use1 W (raw (fact 𝓤 (Hits h m g (held i) x))) (hit-told (held i) x) $ heard ! (Hits h m g (held i) x) (λ eh. split ! $ drop ! $ peeks ! J.the-row (Is J.the-row) (shows 𝓤 H A J.the-row) x (u ∷ []) (λ ih.
-        land ! (from ! (stop !)) (init ! 27 refl (LL.lawful J.the-type J′.the-laws 𝓤 H A W .typed x _ ih .0)) $ rewrite ! 27 (λ (w : Val). ‵ (fat fullShare hitTy l₆ 0 w)) (ap only (LL.tells J.the-type J′.the-laws x (u ∷ []) ih)) refl $ drop ! $
+        land ! (from ! (stop !)) (init ! 27 refl (LL.lawful J.the-type J′.the-laws 𝓤 H A W .typed x _ ih .0)) $ rewrite ! 27 (λ (w : Val). ‵ (fat fullShare hitTy l₇ 0 w)) (ap only (LL.tells J.the-type J′.the-laws x (u ∷ []) ih)) refl $ drop ! $
         assigns ! (of-opd ! (load ! (from ! (fld ! refl (stop !))) (look-in ! 26 (sub ! 0 refl (whole !))))) (from ! (stop !)) (init ! 10 refl (tt, tt)) $
         forks ! (load ! (from ! (stop !)) (look ! 10 refl))
         (λ held-so.
         -- the entry answers: the session is closed as it was, and the memory is given up as it is
-        assigns ! (of-opd ! (load ! (from ! (fld ! refl (stop !))) (look-in ! 26 (sub ! 1 refl (whole !))))) (from ! (stop !)) (init ! 38 refl (LL.lawful N.the-type N′.the-laws 𝓤 H A W .typed (x .answer) _ (LL.owed J.the-type J′.the-laws x (u ∷ []) ih .1 .0) .0)) $
+        assigns ! (of-opd ! (load ! (from ! (fld ! refl (stop !))) (look-in ! 26 (sub ! 1 refl (whole !))))) (from ! (stop !)) (init ! 40 refl (LL.lawful N.the-type N′.the-laws 𝓤 H A W .typed (x .answer) _ (LL.owed J.the-type J′.the-laws x (u ∷ []) ih .1 .0) .0)) $
         use1 W (‵ (fat fullShare (rawTy laidTy) b o (laid (h .regime) (evals (h .entries)) (h .set)))) (W .laws .at-raw fullShare laidTy b o (laid (h .regime) (evals (h .entries)) (h .set))) $
         closed ! tt κ q b o γ h h (sval h) is $
-        returns-within ! Post refl (look ! 38 refl) $ move ! (38 ∷ 39 ∷ 36 ∷ 37 ∷ 34 ∷ 35 ∷ 32 ∷ 33 ∷ 30 ∷ 31 ∷ 28 ∷ 29 ∷ 26 ∷ 27 ∷ 24 ∷ 25 ∷ 22 ∷ 23 ∷ 20 ∷ 21 ∷ 18 ∷ 19 ∷ 16 ∷ 17 ∷ 14 ∷ 15 ∷ 12 ∷ 13 ∷ 10 ∷ 11 ∷ 8 ∷ 9 ∷ 6 ∷ 7 ∷ 4 ∷ 5 ∷ 2 ∷ 3 ∷ []) $ freed ! $ freed ! $ freed ! $ freed ! $ freed ! $ freed ! $ freed ! $ free1 ! $ freed ! $ freed ! $ freed ! $ freed ! $ freed ! $ freed ! $ freed ! $ free1 ! $ free1 ! $ free1 ! $ free1 ! $ free0 ! $
-        -- [the session's borrow; its token; what the others own; their token]
-        move ! (2 ∷ []) $ fsplit ! $ use1 W (‵ (finally u8 γ′ m)) (given-up 𝓤 H A W κ′ γ′ b′ o′ m) $ move ! (2 ∷ 3 ∷ 4 ∷ 0 ∷ 1 ∷ []) $ move ! (4 ∷ []) $ drop ! $
+        returns-within ! Post refl (look ! 40 refl) $ move ! (40 ∷ 41 ∷ 38 ∷ 39 ∷ 36 ∷ 37 ∷ 34 ∷ 35 ∷ 32 ∷ 33 ∷ 30 ∷ 31 ∷ 28 ∷ 29 ∷ 26 ∷ 27 ∷ 24 ∷ 25 ∷ 22 ∷ 23 ∷ 20 ∷ 21 ∷ 18 ∷ 19 ∷ 16 ∷ 17 ∷ 14 ∷ 15 ∷ 12 ∷ 13 ∷ 10 ∷ 11 ∷ 8 ∷ 9 ∷ 6 ∷ 7 ∷ 4 ∷ 5 ∷ 2 ∷ 3 ∷ []) $ freed ! $ freed ! $ freed ! $ freed ! $ freed ! $ freed ! $ freed ! $ freed ! $ free1 ! $ freed ! $ freed ! $ freed ! $ freed ! $ freed ! $ freed ! $ freed ! $ free1 ! $ free1 ! $ free1 ! $ free1 ! $ free0 ! $
+        -- [the session's borrow; its token; what the memory's borrow owns; the access's token; the memory's]
+        move ! (2 ∷ []) $ use1 W (‵ (finally u8 γ′ m)) (given-up 𝓤 H A W κ′ γ′ b′ o′ m) $ nothing ! $ move ! (5 ∷ 0 ∷ []) $ join ! $ move ! (2 ∷ 3 ∷ 0 ∷ 1 ∷ []) $
         by ! (exits h m (x .answer) (hit-is-call h m (accessOf g) x (answers i (en .0) x eh) (is-true (x .hit) held-so)) refl (LL.owed J.the-type J′.the-laws x (u ∷ []) ih .1 .0)))
         (λ failed.
         -- `access_entry`
-        assigns ! (of-opd ! (load ! (from ! (hop ! (look ! 36 refl) (fld ! refl (stop !)))) (look-in ! 0 (sub ! 0 refl (whole !))))) (from ! (stop !)) (store ! 14 refl (regime-typed room ig is)) $
-        assigns ! (of-opd ! (load ! (from ! (hop ! (look ! 36 refl) (fld ! refl (stop !)))) (look-in ! 0 (sub ! 2 refl (whole !))))) (from ! (stop !)) (store ! 12 refl (set-typed room ig is)) $
-        assigns ! (addr ! (from ! (fld ! refl (hop ! (look-in ! 34 (sub ! 0 refl (whole !))) (stop !))))) (from ! (stop !)) (init ! 8 refl (tt, tt)) $
-        assigns ! (agg ! (and-then ! (load ! (from ! (stop !)) (look ! 8 refl)) (and-then ! (load ! (from ! (fld ! refl (stop !))) (look-in ! 34 (sub ! 1 refl (whole !)))) (no-more !)))) (from ! (stop !)) (init ! 6 refl (tt, (tt, (record { fits = room .0 }, tt)))) $
-        move ! (40 ∷ []) $ owned ! E.the-row (Is E.the-row) (LL.makes E.the-type E′.the-plain 𝓤 H A) (held i) _ (entry-is h is i (en .1)) $ fjoin ! $ owned ! u8 (Is u8) (uint-makes 𝓤 H A W w8) (h .set) _ (set-is room ig is) $ fjoin ! $
-        owned ! R.the-row (Is R.the-row) (LL.makes R.the-type R′.the-plain 𝓤 H A) (h .regime) _ (regime-is room ig is) $ move ! (0 ∷ 1 ∷ 42 ∷ []) $ hands ! $
+        assigns ! (of-opd ! (load ! (from ! (hop ! (look ! 38 refl) (fld ! refl (stop !)))) (look-in ! 0 (sub ! 0 refl (whole !))))) (from ! (stop !)) (store ! 14 refl (regime-typed room ig is)) $
+        assigns ! (of-opd ! (load ! (from ! (hop ! (look ! 38 refl) (fld ! refl (stop !)))) (look-in ! 0 (sub ! 2 refl (whole !))))) (from ! (stop !)) (store ! 12 refl (set-typed room ig is)) $
+        assigns ! (addr ! (from ! (fld ! refl (hop ! (look-in ! 36 (sub ! 0 refl (whole !))) (stop !))))) (from ! (stop !)) (init ! 8 refl (tt, tt)) $
+        assigns ! (agg ! (and-then ! (load ! (from ! (stop !)) (look ! 8 refl)) (and-then ! (load ! (from ! (fld ! refl (stop !))) (look-in ! 36 (sub ! 1 refl (whole !)))) (no-more !)))) (from ! (stop !)) (init ! 6 refl (tt, (tt, (record { fits = room .0 }, tt)))) $
+        nothing ! $ owned ! G.the-row (Is G.the-row) (LL.makes G.the-type G′.the-plain 𝓤 H A) g _ ig $ fjoin ! $ move ! (43 ∷ 0 ∷ []) $ fjoin ! $ owned ! E.the-row (Is E.the-row) (LL.makes E.the-type E′.the-plain 𝓤 H A) (held i) _ (entry-is h is i (en .1)) $ fjoin ! $ owned ! u8 (Is u8) (uint-makes 𝓤 H A W w8) (h .set) _ (set-is room ig is) $ fjoin ! $
+        owned ! R.the-row (Is R.the-row) (LL.makes R.the-type R′.the-plain 𝓤 H A) (h .regime) _ (regime-is room ig is) $ nothing ! $ move ! (46 ∷ 0 ∷ []) $ join ! $ move ! (1 ∷ 2 ∷ 0 ∷ []) $ hands ! $
         calls-at ! fm (WalkC 𝓤 H A at-mem run) known-walk (to-walk (held i)) (and-then ! (load ! (from ! (stop !)) (look ! 15 refl)) (and-then ! (load ! (from ! (stop !)) (look ! 13 refl)) (and-then ! (load ! (from ! (stop !)) (look ! 29 refl)) (and-then ! (load ! (from ! (stop !)) (look ! 7 refl)) (and-then ! (load ! (from ! (stop !)) (look ! 33 refl)) (no-more !)))))) (λ v′.
         use1 W (later (some (λ (y : FilledWords). ((‵ (flft κ′ q′) ⊛ ‵ ftrue) ⊛ ‵ (X.the-row .own y (v′ ∷ []))) ⊛ raw (ensured 𝓤 H A walk.ended (walk.clauses 𝓤 H A at-mem run) (κ′, tt) (h .regime, (h .set, (held i, others))) tt y)))) (id⊢ 𝓤 _) $ await ! tt $ pick ! (λ y.
         split ! $ move ! (1 ∷ []) $ use1 W (some (λ (ws : Unit {0} × (Unit {0} × (Unit {0} × (List ℕ × (Unit {0} × Unit {0}))))). ‵ (lasts walk.ended (κ′, tt) (h .regime, (h .set, (held i, others))) ws) ⊛ raw (fact 𝓤 (Filled h m g (held i) y (ws .1 .1 .1 .0))))) (id⊢ 𝓤 _) $ pick ! (λ ws.
         split ! $ move ! (1 ∷ []) $ heard ! (Filled h m g (held i) y (ws .1 .1 .1 .0)) (λ ef. fsplit ! $ drop ! $ fsplit ! $ drop ! $ fsplit ! $ drop ! $ fsplit ! $ fsplit ! $ move ! (1 ∷ []) $ feqL ! (λ long. move ! (1 ∷ []) $ drop ! $
         move ! (1 ∷ []) $ split ! $ move ! (1 ∷ []) $ peeks ! X.the-row (Is X.the-row) (shows 𝓤 H A X.the-row) y (v′ ∷ []) (λ iy. drop ! $
-        -- [the others' token; the memory's last bytes; the session's cell; the open borrow; _18; …; _0]
-        land ! (from ! (stop !)) (init ! 26 refl (LL.lawful X.the-type X′.the-laws 𝓤 H A W .typed y _ iy .0)) $ rewrite ! 26 (λ (w : Val). ‵ (fat fullShare filledTy l₇ 0 w)) (ap only (LL.tells X.the-type X′.the-laws y (v′ ∷ []) iy)) refl $
+        -- [the memory's token; its last bytes; the session's cell; the open borrow; _19; …; _0; …; the access's token]
+        land ! (from ! (stop !)) (init ! 26 refl (LL.lawful X.the-type X′.the-laws 𝓤 H A W .typed y _ iy .0)) $ rewrite ! 26 (λ (w : Val). ‵ (fat fullShare filledTy l₈ 0 w)) (ap only (LL.tells X.the-type X′.the-laws y (v′ ∷ []) iy)) refl $
         -- the new entry is stored where the old one lay
         assigns ! (bin ! (load ! (from ! (stop !)) (look ! 32 refl)) (lit ! tt) (record { fits = far i (en .1) })) (from ! (stop !)) (store ! 24 refl (tt, record { fits = far i (en .1) })) $
-        assigns ! (addr ! (from ! (hop ! (look ! 38 refl) (fld ! refl (stop !))))) (from ! (stop !)) (init ! 6 refl (tt, tt)) $
+        assigns ! (addr ! (from ! (hop ! (look ! 40 refl) (fld ! refl (stop !))))) (from ! (stop !)) (init ! 6 refl (tt, tt)) $
         assigns ! (bin ! (load ! (from ! (stop !)) (look ! 6 refl)) (load ! (from ! (stop !)) (look ! 24 refl)) tt) (from ! (stop !)) (init ! 4 refl (tt, tt)) $
-        rewrite ! 4 (λ (p : ℕ). ‵ (fat fullShare tyPtr l₁₈ 0 (vptr b p))) (sym (place-is 24 (o + 56) i)) refl $
+        rewrite ! 4 (λ (p : ℕ). ‵ (fat fullShare tyPtr l₁₉ 0 (vptr b p))) (sym (place-is 24 (o + 56) i)) refl $
         assigns ! (of-opd ! (load ! (from ! (fld ! refl (stop !))) (look-in ! 26 (sub ! 0 refl (whole !))))) (from ! (hop ! (look ! 4 refl) (stop !))) (store-in ! 2 (item ! entryCount (evals (h .entries)) i (within i is (en .1)) (evals-long h is) (sub ! 1 refl (whole !))) (LL.lawful E.the-type E′.the-laws 𝓤 H A W .typed (y .entry) _ (LL.owed X.the-type X′.the-laws y (v′ ∷ []) iy .0) .0)) $
-        assigns ! (of-opd ! (load ! (from ! (fld ! refl (stop !))) (look-in ! 26 (sub ! 1 refl (whole !))))) (from ! (stop !)) (init ! 40 refl (LL.lawful N.the-type N′.the-laws 𝓤 H A W .typed (y .answer) _ (LL.owed X.the-type X′.the-laws y (v′ ∷ []) iy .1 .0) .0)) $
+        assigns ! (of-opd ! (load ! (from ! (fld ! refl (stop !))) (look-in ! 26 (sub ! 1 refl (whole !))))) (from ! (stop !)) (init ! 42 refl (LL.lawful N.the-type N′.the-laws 𝓤 H A W .typed (y .answer) _ (LL.owed X.the-type X′.the-laws y (v′ ∷ []) iy .1 .0) .0)) $
         rewrite ! 2 (λ (us : List Val). ‵ (fat fullShare laidTy b o (laid (h .regime) us (h .set)))) (evals-set (h .entries) i (y .entry)) refl $ move ! (2 ∷ 3 ∷ []) $
         use1 W (‵ (fat fullShare (rawTy laidTy) b o (laid (h .regime) (evals (set (h .entries) i (y .entry))) (h .set)))) (W .laws .at-raw fullShare laidTy b o (laid (h .regime) (evals (set (h .entries) i (y .entry))) (h .set))) $
         closed ! tt κ q b o γ h (withEntry h i (y .entry)) (sval (withEntry h i (y .entry))) (put-is h is i (y .entry) (LL.owed X.the-type X′.the-laws y (v′ ∷ []) iy .0)) $
-        returns ! (look ! 40 refl) $ move ! (40 ∷ 41 ∷ 38 ∷ 39 ∷ 36 ∷ 37 ∷ 34 ∷ 35 ∷ 32 ∷ 33 ∷ 30 ∷ 31 ∷ 28 ∷ 29 ∷ 26 ∷ 27 ∷ 24 ∷ 25 ∷ 22 ∷ 23 ∷ 20 ∷ 21 ∷ 18 ∷ 19 ∷ 16 ∷ 17 ∷ 14 ∷ 15 ∷ 12 ∷ 13 ∷ 10 ∷ 11 ∷ 8 ∷ 9 ∷ 6 ∷ 7 ∷ 4 ∷ 5 ∷ []) $ freed ! $ freed ! $ freed ! $ freed ! $ freed ! $ freed ! $ freed ! $ freed ! $ freed ! $ freed ! $ freed ! $ freed ! $ freed ! $ freed ! $ freed ! $ freed ! $ freed ! $ freed ! $ freed ! $ free0 ! $
-        by ! (exits (withEntry h i (y .entry)) (ws .1 .1 .1 .0) (y .answer) (filled i (en .0) y (ws .1 .1 .1 .0) ef) long (LL.owed X.the-type X′.the-laws y (v′ ∷ []) iy .1 .0)))))))))))))))))))))))))))))))))))))
+        returns ! (look ! 42 refl) $ move ! (42 ∷ 43 ∷ 40 ∷ 41 ∷ 38 ∷ 39 ∷ 36 ∷ 37 ∷ 34 ∷ 35 ∷ 32 ∷ 33 ∷ 30 ∷ 31 ∷ 28 ∷ 29 ∷ 26 ∷ 27 ∷ 24 ∷ 25 ∷ 22 ∷ 23 ∷ 20 ∷ 21 ∷ 18 ∷ 19 ∷ 16 ∷ 17 ∷ 14 ∷ 15 ∷ 12 ∷ 13 ∷ 10 ∷ 11 ∷ 8 ∷ 9 ∷ 6 ∷ 7 ∷ 4 ∷ 5 ∷ []) $ freed ! $ freed ! $ freed ! $ freed ! $ freed ! $ freed ! $ freed ! $ freed ! $ freed ! $ freed ! $ freed ! $ freed ! $ freed ! $ freed ! $ freed ! $ freed ! $ freed ! $ freed ! $ freed ! $ freed ! $ free0 ! $
+        by ! (exits (withEntry h i (y .entry)) (ws .1 .1 .1 .0) (y .answer) (filled i (en .0) y (ws .1 .1 .1 .0) ef) long (LL.owed X.the-type X′.the-laws y (v′ ∷ []) iy .1 .0)))))))))))))))))))))))))))))))))))))))
       where
         held : ℕ → Entry
         held i = getD (h .entries) i noEntry
@@ -310,12 +319,12 @@ module _ {M : Type 1} (𝓤 : URA M) (H : Heap 𝓤) (A : Atoms 𝓤) (W : Given
   walks : (C : Calls 𝓤 H) (Λ : Loops 𝓤 H) → FmC 𝓤 H (W .laws) C → Triple 𝓤 (C #number) (NumberC 𝓤 H A at-mem run) → Triple 𝓤 (C #hit) (HitC 𝓤 H A at-mem run) → Triple 𝓤 (C #walk) (WalkC 𝓤 H A at-mem run)
       → Walks 𝓤 H A this.ended stayed (WpFn 𝓤 H C Λ code.function) (this.clauses 𝓤 H A at-mem run)
   walks C Λ fm known-number known-hit known-walk = walked 𝓤 H A this.ended stayed (this.clauses 𝓤 H A at-mem run) (WpFn 𝓤 H C Λ code.function)
-      (λ κs. (ptr-vals, (slice-vals, (LL.vals G.the-type G′.the-laws, tt)))) (λ κs. (mut-tells (named 0) (κs .0) S.the-row, (mut-slice-tells (named 1) (κs .1 .0) u8, (LL.tells G.the-type G′.the-laws, tt))))
-      (λ κs qs bounds a _ are. via 𝓤 _ (fst∗ 𝓤 _ (emp 𝓤)) (steps 𝓤 H A W at-mem run (κs .0) (κs .1 .0) (qs .0) (qs .1 .0) (a .0 .ptr .0) (a .0 .ptr .1) (a .0 .name) (a .0 .now)
-      (a .1 .0 .ptr .0) (a .1 .0 .ptr .1) (a .1 .0 .name) (a .1 .0 .now) (a .1 .1 .0) C Λ fm known-number known-hit known-walk (are .1 .0 .0 .1) (are .1 .1 .0)))
+      (λ κs. (ptr-vals, (slice-vals, (ptr-vals, tt)))) (λ κs. (mut-tells (named 0) (κs .0) S.the-row, (mut-slice-tells (named 1) (κs .1 .0) u8, (shr-tells (named 2) (κs .1 .1 .0) G.the-row, tt))))
+      (λ κs qs bounds a _ are. via 𝓤 _ (fst∗ 𝓤 _ (emp 𝓤)) (steps 𝓤 H A W at-mem run (κs .0) (κs .1 .0) (κs .1 .1 .0) (qs .0) (qs .1 .0) (qs .1 .1 .0) (a .0 .ptr .0) (a .0 .ptr .1) (a .0 .name) (a .0 .now)
+      (a .1 .0 .ptr .0) (a .1 .0 .ptr .1) (a .1 .0 .name) (a .1 .0 .now) (a .1 .1 .0) C Λ fm known-number known-hit known-walk (are .1 .0 .0 .1)))
 
-  goes : AllGo 𝓤 H A W 2 (this.signature .params) (this.ended .kept) stayed
-  goes = (goes-ref 𝓤 H A W 2 0 tt (plain (λ _. S.the-row)), (goes-gave-slice 𝓤 H A W 2 1 tt (plain (λ _. u8)), (goes-dropped 𝓤 H A W 2 (plain (λ _. G.the-row)) yes (λ κs x f. refl), tt)))
+  goes : AllGo 𝓤 H A W 3 (this.signature .params) (this.ended .kept) stayed
+  goes = (goes-ref 𝓤 H A W 3 0 tt (plain (λ _. S.the-row)), (goes-gave-slice 𝓤 H A W 3 1 tt (plain (λ _. u8)), (goes-dropped 𝓤 H A W 3 (shrRefTo (2 ∷ []) tt (plain (λ _. G.the-row))) yes (λ κs x f. refl), tt)))
 
 pub vmsa-session-access-spec : {M : Type 1} → stated.statement M
 unfolding code.routine
