@@ -9,11 +9,11 @@ use Rattle.descriptor.specs.Bits.{setBit, clearBit}
 use Rattle.descriptor.proofs.Tests.{and-true}
 use Rattle.vmsa.specs.Geometry.{pageSize, strideBits, unaligned, pageOf, levelOf, shiftOf, span, blockAt, firstLeft, cut, outputBits, outputLimit}
 use Rattle.vmsa.specs.Attributes.{attribute, device, normal}
-use Rattle.checks.specs.Tests.{memoryPoolBad, poolAddressBad, tszBad, sizesBad, rootBad, rootsBad, attributeBad, attributesBad, accessSizeBad, lastByte, crossing}
+use Rattle.refusals.specs.Tests.{memoryPoolBad, poolAddressBad, tszBad, sizesBad, rootBad, rootsBad, attributeBad, attributesBad, accessSizeBad, lastByte, crossing}
 use Rattle.checks.specs.Order.{walkCheck}
 use Rattle.lookup.specs.Steps.{invalid, isTable, addressIn, decoded, entryAt, followed, entered, descend, upper, rangeOf, outside, contextOf, locate}
 use Rattle.permission.specs.Permission.{attributeOf, writable, clean, user, mayRead, mayWrite, mayFetch, permitted, misaligned, flagFails, alignmentFails, permissionFails}
-use Rattle.permission.specs.Decision.{flagDue, dirtyDue, updated, cacheable, outputOf, failing, passing, decision}
+use Rattle.decision.specs.Decision.{flagDue, dirtyDue, updated, cacheable, outputOf, failing, passing, decision}
 use Rattle.walk.specs.Walk.{Outcome}
 use Rattle.cases.specs.Cases.{puts, Row, expected, Holds, All, rows, Worked}
 use Rattle.cases.proofs.Quick.{placed, allPlaced, valueAt, quick, walkAlong, quickWalk}

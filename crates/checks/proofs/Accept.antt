@@ -17,7 +17,7 @@ use Rattle.vmsa.specs.declared.Access.{Access}
 use Rattle.vmsa.specs.declared.Refusal.{Refusal}
 use Rattle.checks.specs.declared.Checked.{Checked}
 use Rattle.checks.specs.declared.Checked.the-variants.{Accepted, Refused}
-use Rattle.checks.specs.Tests.{memoryPoolBad, poolAddressBad, tszBad, sizesBad, rootBad, rootsBad, attributesBad, accessSizeBad, lastByte, crossing}
+use Rattle.refusals.specs.Tests.{memoryPoolBad, poolAddressBad, tszBad, sizesBad, rootBad, rootsBad, attributesBad, accessSizeBad, lastByte, crossing}
 use Rattle.checks.specs.Order.{firstBefore, firstOf, regimeRows, accessRows, walkRows, regimeCheck, accessCheck, walkCheck}
 
 -- no test of the rows applies

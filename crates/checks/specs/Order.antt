@@ -10,7 +10,7 @@ use Rattle.vmsa.specs.declared.Refusal.{Refusal}
 use Rattle.vmsa.specs.declared.Refusal.the-variants.{MemoryPool, PoolAddress, Sizes, Root, Attributes, AccessSize, PageCrossing, StoreAddress}
 use Rattle.checks.specs.declared.Checked.{Checked}
 use Rattle.checks.specs.declared.Checked.the-variants.{Accepted, Refused}
-use Rattle.checks.specs.Tests.{memoryPoolBad, poolAddressBad, sizesBad, rootsBad, attributesBad, accessSizeBad, crossing, storeAddressBad}
+use Rattle.refusals.specs.Tests.{memoryPoolBad, poolAddressBad, sizesBad, rootsBad, attributesBad, accessSizeBad, crossing, storeAddressBad}
 
 -- the refusal of the first test that applies, or else what the rest says
 abbrev pub firstBefore : List (Bool × Refusal) → Checked → Checked

@@ -1,160 +1,17 @@
-// The refusals: each row of the table as one test, and the order of the tests for each call.
+// The order in which a call is checked: the first row of the table that applies gives the refusal.
 ghost use mathlib.Core.Path.{_≡_};
-ghost use Prim.Native.Nat.{_+_, _-_};
-ghost use lib.Dec.{ltb};
 ghost use Rattle.descriptor.specs.Bits.{pick};
-ghost use Rattle.checks.specs.Tests.{memoryPoolBad, poolAddressBad, tszBad, sizesBad, rootBad, rootsBad, attributeBad, attributesBad, accessSizeBad, lastByte, crossing, storeAddressBad};
 ghost use Rattle.checks.specs.Order.{firstBefore, regimeRows, memoryRows, regimeCheck, accessCheck, walkCheck, sessionAccessCheck, sessionStoreCheck};
 use vmsa::Access;
 use vmsa::PhysAddr;
 use vmsa::Pool;
 use vmsa::Refusal;
 use vmsa::Regime;
-use vmsa::VirtAddr;
 
 // What the checks of a call say.
 pub enum Checked {
     Accepted,
     Refused(Refusal),
-}
-
-// Whether start + length is above n.
-fn passes(n: usize, start: usize, length: usize) -> bool
-    ensures { λ r. ⌜ r ≡ ltb n (start + length) ⌝ }
-{
-    if n < start {
-        return true;
-    }
-    n - start < length
-}
-
-// 1: of the memory and the pool's part of it.
-fn memory_pool_bad(n: usize, pool: Pool) -> bool
-    ensures { λ r. ⌜ r ≡ memoryPoolBad n pool ⌝ }
-{
-    (vmsa::MEMORY_LIMIT < n)
-        | vmsa::unaligned(vmsa::PAGE_BITS, pool.start as u64)
-        | vmsa::unaligned(vmsa::PAGE_BITS, pool.length as u64)
-        | (pool.length == 0)
-        | (vmsa::POOL_LIMIT < pool.length)
-        | passes(n, pool.start, pool.length)
-}
-
-// 2: of the pool's address.
-fn pool_address_bad(pool: Pool) -> bool
-    ensures { λ r. ⌜ r ≡ poolAddressBad pool ⌝ }
-{
-    let address = pool.address.0;
-    if vmsa::ADDRESS_LIMIT < address {
-        return true;
-    }
-    vmsa::unaligned(vmsa::PAGE_BITS, address)
-        | (vmsa::ADDRESS_LIMIT - address < (pool.length as u64))
-}
-
-fn tsz_bad(t: u8) -> bool
-    ensures { λ r. ⌜ r ≡ tszBad t ⌝ }
-{
-    (t < vmsa::TSZ_LEAST) | (vmsa::TSZ_MOST < t)
-}
-
-// 3: of the sizes.
-pub fn sizes_bad(r: Regime) -> bool
-    ensures { λ b. ⌜ b ≡ sizesBad r ⌝ }
-{
-    tsz_bad(r.range0.tsz) | tsz_bad(r.range1.tsz) | (vmsa::OUTPUT_MOST < r.output)
-}
-
-fn root_bad(root: PhysAddr) -> bool
-    ensures { λ r. ⌜ r ≡ rootBad (root .0) ⌝ }
-{
-    vmsa::unaligned(vmsa::PAGE_BITS, root.0) | (vmsa::ADDRESS_LIMIT <= root.0)
-}
-
-// 4: of the roots.
-pub fn roots_bad(r: Regime) -> bool
-    ensures { λ b. ⌜ b ≡ rootsBad r ⌝ }
-{
-    root_bad(r.range0.root) | root_bad(r.range1.root)
-}
-
-fn attribute_bad(b: u8) -> bool
-    ensures { λ r. ⌜ r ≡ attributeBad b ⌝ }
-{
-    !(vmsa::device(b) | vmsa::normal(b))
-}
-
-// 5: of the attribute bytes.
-fn attributes_bad(attributes: u64) -> bool
-    ensures { λ r. ⌜ r ≡ attributesBad attributes ⌝ }
-{
-    attribute_bad(vmsa::attribute(attributes, 0))
-        | attribute_bad(vmsa::attribute(attributes, 1))
-        | attribute_bad(vmsa::attribute(attributes, 2))
-        | attribute_bad(vmsa::attribute(attributes, 3))
-        | attribute_bad(vmsa::attribute(attributes, 4))
-        | attribute_bad(vmsa::attribute(attributes, 5))
-        | attribute_bad(vmsa::attribute(attributes, 6))
-        | attribute_bad(vmsa::attribute(attributes, 7))
-}
-
-// 6: of the access's size.
-fn access_size_bad(a: Access) -> bool
-    ensures { λ r. ⌜ r ≡ accessSizeBad a ⌝ }
-{
-    let kind = a.kind;
-    let size = a.size;
-    if !((size == 1) | (size == 2) | (size == 4) | (size == 8) | (size == 16)) {
-        return true;
-    }
-    if kind.is_fetch() {
-        return !(size == 4) | !(a.address.0 % 4 == 0);
-    }
-    kind.is_probe() & !(size == 1)
-}
-
-// One less, 0 for 0.
-fn one_less(size: u64) -> u64
-    ensures { λ r. ⌜ r ≡ size - 1 ⌝ }
-{
-    if size == 0 {
-        return 0;
-    }
-    size - 1
-}
-
-// The address of the last byte, modulo 2^64.
-fn last_byte(a: Access) -> u64
-    ensures { λ r. ⌜ r ≡ lastByte a ⌝ }
-{
-    let more = one_less(a.size);
-    std::num::wrapping_add_u64(a.address.0, more)
-}
-
-// 7: of the pages of the first and the last byte.
-fn crosses(a: Access) -> bool
-    ensures { λ r. ⌜ r ≡ crossing a ⌝ }
-{
-    let last = VirtAddr(last_byte(a));
-    let first_page = vmsa::page_of(vmsa::PAGE_BITS, a.address);
-    let last_page = vmsa::page_of(vmsa::PAGE_BITS, last);
-    first_page != last_page
-}
-
-// 8: of a store's address. Where the address is not below the pool's, both ends are counted from there.
-fn store_address_bad(pool: Pool, address: PhysAddr) -> bool
-    ensures { λ r. ⌜ r ≡ storeAddressBad pool (address .0) ⌝ }
-{
-    let at = address.0;
-    let base = pool.address.0;
-    if at < base {
-        return true;
-    }
-    let length = pool.length as u64;
-    if length < 8 {
-        return true;
-    }
-    !(at % 8 == 0) | (length - 8 < at - base)
 }
 
 // The refusal where the test applies, or else what the rest says.
@@ -171,11 +28,23 @@ fn first(bad: bool, refusal: Refusal, rest: Checked) -> Checked
 fn regime_before(n: usize, r: Regime, rest: Checked) -> Checked
     ensures { λ x. ⌜ x ≡ firstBefore (regimeRows n r) rest ⌝ }
 {
-    let from5 = first(attributes_bad(r.attributes), Refusal::Attributes, rest);
-    let from4 = first(roots_bad(r), Refusal::Root, from5);
-    let from3 = first(sizes_bad(r), Refusal::Sizes, from4);
-    let from2 = first(pool_address_bad(r.pool), Refusal::PoolAddress, from3);
-    first(memory_pool_bad(n, r.pool), Refusal::MemoryPool, from2)
+    let from5 = first(
+        refusals::attributes_bad(r.attributes),
+        Refusal::Attributes,
+        rest,
+    );
+    let from4 = first(refusals::roots_bad(r), Refusal::Root, from5);
+    let from3 = first(refusals::sizes_bad(r), Refusal::Sizes, from4);
+    let from2 = first(
+        refusals::pool_address_bad(r.pool),
+        Refusal::PoolAddress,
+        from3,
+    );
+    first(
+        refusals::memory_pool_bad(n, r.pool),
+        Refusal::MemoryPool,
+        from2,
+    )
 }
 
 // Setting a regime over a memory of n bytes: 1 to 5.
@@ -189,8 +58,12 @@ pub fn check_regime(n: usize, r: Regime) -> Checked
 pub fn check_access(a: Access) -> Checked
     ensures { λ x. ⌜ x ≡ accessCheck a ⌝ }
 {
-    let from7 = first(crosses(a), Refusal::PageCrossing, Checked::Accepted);
-    first(access_size_bad(a), Refusal::AccessSize, from7)
+    let from7 = first(
+        refusals::crosses(a),
+        Refusal::PageCrossing,
+        Checked::Accepted,
+    );
+    first(refusals::access_size_bad(a), Refusal::AccessSize, from7)
 }
 
 // A plain walk over a memory of n bytes: 1 to 7.
@@ -204,7 +77,11 @@ pub fn check_walk(n: usize, r: Regime, a: Access) -> Checked
 fn memory_before(n: usize, pool: Pool, rest: Checked) -> Checked
     ensures { λ x. ⌜ x ≡ firstBefore (memoryRows n pool) rest ⌝ }
 {
-    first(memory_pool_bad(n, pool), Refusal::MemoryPool, rest)
+    first(
+        refusals::memory_pool_bad(n, pool),
+        Refusal::MemoryPool,
+        rest,
+    )
 }
 
 // An access in a session that has a regime, over a memory of n bytes: 1, 6 and 7.
@@ -219,7 +96,7 @@ pub fn check_session_store(n: usize, pool: Pool, address: PhysAddr) -> Checked
     ensures { λ x. ⌜ x ≡ sessionStoreCheck n pool (address .0) ⌝ }
 {
     let from8 = first(
-        store_address_bad(pool, address),
+        refusals::store_address_bad(pool, address),
         Refusal::StoreAddress,
         Checked::Accepted,
     );

@@ -1,2 +1,1 @@
 pub mod Permission
-pub mod Decision

@@ -1,7 +1,6 @@
 -- What a leaf permits (01, "The walk", after the codes).
 use Prim.Native.Nat.{ℕ, _%_}
 use mathlib.Core.Bool.{Bool, true, false, not, _&&_, _||_}
-use mathlib.Core.List.{List, [], _∷_}
 use lib.Dec.{eqb}
 use Rattle.descriptor.specs.Bits.{pick}
 use Rattle.vmsa.specs.Kinds.{isFetch, isProbe, asksWrite}
@@ -10,8 +9,6 @@ use Rattle.vmsa.specs.Fields.{attributeIndex, ap1, ap2, af, dbm, pxn, uxn}
 use Rattle.vmsa.specs.declared.Regime.{Regime}
 use Rattle.vmsa.specs.declared.Access.{Access}
 use Rattle.vmsa.specs.declared.Leaf.{Leaf}
-use Rattle.vmsa.specs.declared.FaultKind.{FaultKind}
-use Rattle.vmsa.specs.declared.FaultKind.the-variants.{AccessFlag, Permission, Alignment}
 
 -- the attribute byte of a leaf
 unfoldable pub attributeOf : Regime → Leaf → ℕ
@@ -51,7 +48,7 @@ permitted r a l = pick (isFetch (a .kind)) (mayFetch r (a .el0) l) (pick (asksWr
 unfoldable pub misaligned : Access → Bool
 misaligned a = not (isFetch (a .kind) || isProbe (a .kind)) && not (eqb (a .address .0 % a .size) 0)
 
--- ---- steps 6 to 8, in their order: each with the fault that it gives
+-- ---- when each of steps 6 to 8 fails
 
 -- 6: AF clear and HA off
 unfoldable pub flagFails : Regime → Leaf → Bool
@@ -64,11 +61,3 @@ alignmentFails r a l = misaligned a && device (attributeOf r l)
 -- 8: not permitted, or a permitted fetch from Device memory
 unfoldable pub permissionFails : Regime → Access → Leaf → Bool
 permissionFails r a l = not (permitted r a l) || isFetch (a .kind) && device (attributeOf r l)
-
-abbrev pub leafSteps : Regime → Access → Leaf → List (Bool × FaultKind)
-leafSteps r a l = (flagFails r l, AccessFlag) ∷ (alignmentFails r a l, Alignment) ∷ (permissionFails r a l, Permission) ∷ []
-
--- what the first step that fails gives, or else what passing all gives
-abbrev pub firstFailing : {A : Type 0} → List (Bool × FaultKind) → (FaultKind → A) → A → A
-firstFailing [] fails passes = passes
-firstFailing (step ∷ steps) fails passes = pick (step .0) (fails (step .1)) (firstFailing steps fails passes)

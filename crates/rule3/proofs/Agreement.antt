@@ -22,7 +22,7 @@ use Rattle.vmsa.specs.declared.FaultKind.{FaultKind}
 use Rattle.vmsa.specs.declared.FaultKind.the-variants.{AccessFlag, Alignment, Permission}
 use Rattle.lookup.proofs.Decoding.{cut-same}
 use Rattle.permission.specs.Permission.{attributeOf, writable, clean, user, mayRead, mayWrite, mayFetch, permitted, flagFails, alignmentFails, permissionFails}
-use Rattle.permission.specs.Decision.{Decision, flagDue, dirtyDue, updated, cacheable, outputOf, failing, passing, decision}
+use Rattle.decision.specs.Decision.{Decision, flagDue, dirtyDue, updated, cacheable, outputOf, failing, passing, decision}
 use Rattle.rules.proofs.Updates.{updated-none, updated-af}
 use Rattle.session.specs.Replies.{updates}
 use Rattle.session.specs.Model.{revalued}

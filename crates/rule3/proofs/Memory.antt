@@ -23,7 +23,7 @@ use Rattle.vmsa.specs.declared.Access.{Access}
 use Rattle.vmsa.specs.declared.Leaf.{Leaf}
 use Rattle.vmsa.specs.declared.FaultKind.the-variants.{Translation}
 use Rattle.checks.specs.declared.Checked.the-variants.{Accepted}
-use Rattle.checks.specs.Tests.{sizesBad, rootsBad}
+use Rattle.refusals.specs.Tests.{sizesBad, rootsBad}
 use Rattle.checks.specs.Order.{firstOf, memoryRows, settingRows}
 use Rattle.checks.proofs.Accept.{clear, Pooled, pooled, Addressed, addressed}
 use Rattle.lookup.specs.declared.Word.{Word}
@@ -33,7 +33,7 @@ use Rattle.lookup.specs.Steps.{decoded, fetched, contextOf, rangeOf, locate}
 use Rattle.lookup.proofs.Decoding.{Alike, decoded-same, aligned8}
 use Rattle.lookup.proofs.Reach.{context-paged, locate-read}
 use Rattle.lookup.proofs.Readers.{AlikeWords, unreachable, values, AlikeEnds, faults, leaves, AlikeTraces, locate-alike}
-use Rattle.permission.specs.Decision.{updated}
+use Rattle.decision.specs.Decision.{updated}
 use Rattle.walk.specs.Walk.{poolOf, traced}
 use Rattle.walk.proofs.Parts.{with-put, part-with, length-part}
 use Rattle.walk.proofs.Ends.{Found, found, aligned-zero}

@@ -14,8 +14,8 @@ use Rattle.vmsa.specs.declared.Leaf.{Leaf}
 use Rattle.vmsa.specs.declared.FaultKind.{FaultKind}
 use Rattle.vmsa.specs.declared.FaultKind.the-variants.{AccessFlag, Permission, Alignment}
 use Rattle.lookup.specs.Trace.{End, fault, leaf}
-use Rattle.permission.specs.Permission.{flagFails, alignmentFails, permissionFails, firstFailing}
-use Rattle.permission.specs.Decision.{Decision, failing, passing, decision}
+use Rattle.permission.specs.Permission.{flagFails, alignmentFails, permissionFails}
+use Rattle.decision.specs.Decision.{Decision, firstFailing, failing, passing, decision}
 use Rattle.walk.specs.Walk.{Outcome, traced, settled, walkPool}
 use Rattle.rules.specs.Steps.{step, leafSteps, walkSteps}
 use Rattle.rules.proofs.StepLaws.{Fault, firstFault, endFault, walk-steps}

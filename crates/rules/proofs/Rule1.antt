@@ -15,7 +15,7 @@ use Rattle.vmsa.specs.declared.Refusal.{Refusal}
 use Rattle.checks.specs.declared.Checked.{Checked}
 use Rattle.checks.specs.declared.Checked.the-variants.{Accepted, Refused}
 use Rattle.checks.specs.Order.{walkRows, walkCheck}
-use Rattle.permission.specs.Decision.{flagDue, dirtyDue}
+use Rattle.decision.specs.Decision.{flagDue, dirtyDue}
 use Rattle.walk.specs.Walk.{Outcome, poolOf, walkPool, walk}
 use Rattle.walk.proofs.Ends.{ready}
 use Rattle.rules.specs.Rule1.{FirstRow, Rule1}

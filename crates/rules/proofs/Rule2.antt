@@ -29,7 +29,7 @@ use Rattle.lookup.specs.Steps.{contextOf, fetched}
 use Rattle.lookup.proofs.Decoding.{is-leaf, output-below}
 use Rattle.lookup.proofs.Reach.{locate-visited}
 use Rattle.permission.specs.Permission.{attributeOf}
-use Rattle.permission.specs.Decision.{flagDue, dirtyDue, updated, cacheable, outputOf}
+use Rattle.decision.specs.Decision.{flagDue, dirtyDue, updated, cacheable, outputOf}
 use Rattle.walk.specs.Walk.{walk, traced, poolOf}
 use Rattle.walk.proofs.Ends.{ready}
 use Rattle.rules.specs.Steps.{AllPass, FirstFails, leafSteps}

@@ -21,7 +21,7 @@ use Rattle.vmsa.specs.declared.AccessKind.the-variants.{Read, Write, Update, Fe
 use Rattle.vmsa.specs.declared.Leaf.{Leaf}
 use Rattle.vmsa.specs.declared.FaultKind.the-variants.{AccessFlag, Permission, Alignment}
 use Rattle.permission.specs.Permission.{writable, clean, mayRead, mayWrite, permitted, flagFails, alignmentFails, permissionFails}
-use Rattle.permission.specs.Decision.{flagDue, dirtyDue, updated}
+use Rattle.decision.specs.Decision.{flagDue, dirtyDue, updated}
 use Rattle.rules.specs.Steps.{step, leafSteps}
 use Rattle.rules.proofs.StepLaws.{Fault, firstFault, no-fault}
 

@@ -28,7 +28,7 @@ use Rattle.checks.specs.Order.{walkCheck}
 use Rattle.checks.proofs.Accept.{walk-accepted}
 use Rattle.lookup.proofs.Decoding.{aligned8}
 use Rattle.permission.specs.Permission.{attributeOf}
-use Rattle.permission.specs.Decision.{flagDue, dirtyDue, updated, cacheable, outputOf, passing}
+use Rattle.decision.specs.Decision.{flagDue, dirtyDue, updated, cacheable, outputOf, passing}
 use Rattle.walk.specs.Walk.{Outcome, poolOf, withPool, settled, walkPool, walk}
 use Rattle.walk.proofs.Ends.{Found, found, ready, aligned-zero}
 use Rattle.rules.specs.Steps.{leafSteps}

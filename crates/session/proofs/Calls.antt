@@ -22,11 +22,11 @@ use Rattle.vmsa.specs.declared.Access.{Access}
 use Rattle.vmsa.specs.declared.Leaf.{Leaf}
 use Rattle.checks.specs.declared.Checked.{Checked}
 use Rattle.checks.specs.declared.Checked.the-variants.{Accepted, Refused}
-use Rattle.checks.specs.Tests.{storeAddressBad}
+use Rattle.refusals.specs.Tests.{storeAddressBad}
 use Rattle.checks.specs.Order.{memoryRows, settingRows, accessRows, storeRows, regimeCheck, sessionAccessCheck, sessionStoreCheck}
 use Rattle.checks.proofs.Accept.{clear, pooled, shaped}
 use Rattle.lookup.specs.Trace.{End, fault, leaf}
-use Rattle.permission.specs.Decision.{decision}
+use Rattle.decision.specs.Decision.{decision}
 use Rattle.walk.specs.declared.Walked.{Walked as WalkedStruct}
 use Rattle.walk.specs.declared.Kept.{Kept}
 use Rattle.walk.specs.declared.Kept.the-variants as kept

@@ -11,7 +11,7 @@ use Rattle.vmsa.specs.declared.Access.{Access}
 use Rattle.vmsa.specs.declared.Leaf.{Leaf}
 use Rattle.vmsa.specs.declared.FaultKind.the-variants.{AccessFlag, Alignment, Permission}
 use Rattle.permission.specs.Permission.{flagFails, alignmentFails, permissionFails}
-use Rattle.permission.specs.Decision.{Decision, dirtyDue, updated, failing, passing, decision, passesClean}
+use Rattle.decision.specs.Decision.{Decision, dirtyDue, updated, failing, passing, decision, passesClean}
 use Rattle.session.specs.Replies.{answered, replyOf, updates}
 use Rattle.session.specs.Ours.{judged, stamped}
 use Rattle.session.specs.View.{isSuccess, succeeds}

@@ -16,7 +16,7 @@ use Rattle.vmsa.specs.declared.Access.{Access}
 use Rattle.vmsa.specs.declared.Leaf.{Leaf}
 use Rattle.session.specs.declared.Entry.{Entry as EntryStruct}
 use Rattle.session.specs.declared.Session.{Session as SessionStruct}
-use Rattle.permission.specs.Decision.{passing}
+use Rattle.decision.specs.Decision.{passing}
 use Rattle.session.specs.Replies.{Reply, answered, replyOf}
 use Rattle.session.specs.Model.{Entry, Session, empty, holds, heldIn, held, keep, entryOf, learn, accessHeld, walked}
 use Rattle.session.specs.Ours.{judged, ours}

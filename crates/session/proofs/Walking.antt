@@ -23,13 +23,13 @@ use Rattle.vmsa.specs.declared.Leaf.{Leaf}
 use Rattle.vmsa.specs.declared.Refusal.{Refusal}
 use Rattle.checks.specs.declared.Checked.{Checked}
 use Rattle.checks.specs.declared.Checked.the-variants.{Accepted, Refused}
-use Rattle.checks.specs.Tests.{sizesBad, rootBad, rootsBad}
+use Rattle.refusals.specs.Tests.{sizesBad, rootBad, rootsBad}
 use Rattle.checks.specs.Order.{firstBefore, firstOf}
 use Rattle.checks.proofs.Accept.{sized, Rooted, rooted}
 use Rattle.lookup.specs.Trace.{End, fault, leaf, Trace}
 use Rattle.lookup.specs.Steps.{rangeOf}
 use Rattle.lookup.proofs.Page.{locate-page}
-use Rattle.permission.specs.Decision.{decision}
+use Rattle.decision.specs.Decision.{decision}
 use Rattle.walk.specs.Walk.{Outcome, poolOf, withPool, settled, concluded, traced, walkPool, keptOf, keptAt, keptPool}
 use Rattle.walk.proofs.Parts.{with-own, with-put, length-part}
 use Rattle.walk.proofs.Ends.{root-aligned, found}

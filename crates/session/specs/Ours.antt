@@ -13,10 +13,10 @@ use Rattle.vmsa.specs.declared.Access.{Access}
 use Rattle.vmsa.specs.declared.Leaf.{Leaf}
 use Rattle.vmsa.specs.declared.FaultKind.the-variants.{Translation}
 use Rattle.checks.specs.declared.Checked.{Checked}
-use Rattle.checks.specs.Tests.{sizesBad, rootsBad}
+use Rattle.refusals.specs.Tests.{sizesBad, rootsBad}
 use Rattle.checks.specs.Order.{firstOf, memoryRows, settingRows, accessRows, storeRows}
 use Rattle.lookup.specs.Trace.{End, fault, leaf, Trace}
-use Rattle.permission.specs.Decision.{decision, updated}
+use Rattle.decision.specs.Decision.{decision, updated}
 use Rattle.walk.specs.Walk.{poolOf, traced, walk}
 use Rattle.session.specs.Model.{Spot, lost, found, Walker}
 

@@ -112,7 +112,7 @@ impl Entry {
         let Held::Leaf(leaf) = self.held_of(page) else {
             return Asked::Walk;
         };
-        let verdict = permission::judge(r, a, leaf, 0);
+        let verdict = decision::judge(r, a, leaf, 0);
         let answer = verdict.answer;
         if answer.dirtied() {
             return Asked::Walk;
@@ -129,7 +129,7 @@ impl Entry {
         let Held::Leaf(leaf) = self.held_of(page) else {
             return false;
         };
-        permission::passes_clean(r, a, leaf)
+        decision::passes_clean(r, a, leaf)
     }
 
     // The success that it answers with, where it does.
@@ -141,7 +141,7 @@ impl Entry {
             value: self.value,
             left: self.left,
         };
-        permission::success(r, a, leaf, 0)
+        decision::success(r, a, leaf, 0)
     }
 
     // The entry with a leaf that may be remembered of a page.
@@ -165,7 +165,7 @@ impl Entry {
 fn usable(r: Regime) -> bool
     ensures { λ b. ⌜ b ≡ usableOf r ⌝ }
 {
-    !(checks::sizes_bad(r) | checks::roots_bad(r))
+    !(refusals::sizes_bad(r) | refusals::roots_bad(r))
 }
 
 // The walk of an access that no entry answers, in the pool's part of the memory.

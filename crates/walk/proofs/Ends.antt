@@ -33,8 +33,8 @@ use Rattle.lookup.specs.Trace.{End, fault, leaf, Trace, shownEnd, shown}
 use Rattle.lookup.specs.Steps.{fetched, contextOf, upper, rangeOf}
 use Rattle.lookup.proofs.Decoding.{aligned8}
 use Rattle.lookup.proofs.Reach.{Good, Reached, locate-good, InPool, in-pool}
-use Rattle.permission.specs.declared.Verdict.{Verdict}
-use Rattle.permission.specs.Decision.{decision, seen}
+use Rattle.decision.specs.declared.Verdict.{Verdict}
+use Rattle.decision.specs.Decision.{decision, seen}
 use Rattle.walk.proofs.Parts.{put-back}
 use Rattle.walk.specs.Walk.{Outcome, traced, outcome, settled, walkPool, keptOf, keptPool, walk}
 

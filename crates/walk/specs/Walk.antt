@@ -17,7 +17,7 @@ use Rattle.checks.specs.declared.Checked.the-variants.{Accepted, Refused}
 use Rattle.checks.specs.Order.{walkCheck}
 use Rattle.lookup.specs.Trace.{End, fault, leaf, Trace}
 use Rattle.lookup.specs.Steps.{fetched, locate}
-use Rattle.permission.specs.Decision.{Decision, decision}
+use Rattle.decision.specs.Decision.{Decision, decision}
 use Rattle.walk.specs.declared.Kept.{Kept}
 use Rattle.walk.specs.declared.Kept.the-variants as kept
 

@@ -57,7 +57,7 @@ pub fn walk_leaf(pool: &mut [u8], r: Regime, a: Access) -> Walked
             kept: Kept::Nothing,
         },
         Ending::Leaf => {
-            let verdict = permission::judge(r, a, found.leaf, found.reads);
+            let verdict = decision::judge(r, a, found.leaf, found.reads);
             let answer = verdict.answer;
             let kept = keep(answer, verdict.value, found.leaf.left);
             if verdict.update {

@@ -2,7 +2,7 @@ use borrow.Author.Needs.{needs}
 use mathlib.Core.Path.{_≡_, sym, ap, _∙_}
 use mathlib.Core.Option.{Option, none, some}
 use Rattle.vmsa.specs.Answers.{view, dirtiedIn}
-use Rattle.permission.specs.Decision.{Decision}
+use Rattle.decision.specs.Decision.{Decision}
 use Rattle.session.specs.Replies.{replyOf}
 use Rattle.session.specs.Model.{heldIn}
 use Rattle.session.specs.Ours.{judged, ours}

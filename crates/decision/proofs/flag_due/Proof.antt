@@ -1,0 +1,11 @@
+use borrow.Author.Needs.{needs}
+use Rattle.decision.specs.Decision.{flagDue}
+use Rattle.decision.proofs.flag_due.Statement.{statement}
+use Rattle.decision.proofs.flag_due.Tie as tie
+
+returns : tie.Need-returns
+unfolding flagDue
+returns c = cc
+
+pub flag-due-spec : {M : Type 1} → statement M
+flag-due-spec = tie.close (tie.spec (λ c κs. search needs) (λ c κs. search needs) returns)

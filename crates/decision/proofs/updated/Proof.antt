@@ -1,0 +1,13 @@
+use borrow.Author.Needs.{needs}
+use Rattle.decision.specs.Decision.{updated}
+use Rattle.decision.proofs.updated.Statement.{statement}
+use Rattle.decision.proofs.updated.Tie as tie
+
+returns : tie.Need-returns
+unfolding updated
+returns c = cc
+
+pub updated-spec : {M : Type 1} → statement M
+updated-spec =
+    tie.close
+    (tie.spec (λ c κs. search needs) (λ c κs. search needs) (λ c κs. search needs) (λ c κs. search needs) returns)

@@ -1,0 +1,11 @@
+use borrow.Author.Needs.{needs}
+use Rattle.refusals.specs.Tests.{crossing}
+use Rattle.refusals.proofs.crosses.Statement.{statement}
+use Rattle.refusals.proofs.crosses.Tie as tie
+
+returns : tie.Need-returns
+unfolding crossing
+returns c = cc
+
+pub crosses-spec : {M : Type 1} → statement M
+crosses-spec = tie.close (tie.spec (λ c κs. search needs) (λ c κs. search needs) (λ c κs. search needs) returns)

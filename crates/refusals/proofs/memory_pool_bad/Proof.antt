@@ -1,0 +1,12 @@
+use borrow.Author.Needs.{needs}
+use Rattle.refusals.specs.Tests.{memoryPoolBad}
+use Rattle.refusals.proofs.memory_pool_bad.Statement.{statement}
+use Rattle.refusals.proofs.memory_pool_bad.Tie as tie
+
+returns : tie.Need-returns
+unfolding memoryPoolBad
+returns c = cc
+
+pub memory-pool-bad-spec : {M : Type 1} → statement M
+memory-pool-bad-spec =
+    tie.close (tie.spec (λ c κs. search needs) (λ c κs. search needs) (λ c κs. search needs) returns)

@@ -1,0 +1,11 @@
+use borrow.Author.Needs.{needs}
+use Rattle.refusals.specs.Tests.{rootsBad}
+use Rattle.refusals.proofs.roots_bad.Statement.{statement}
+use Rattle.refusals.proofs.roots_bad.Tie as tie
+
+returns : tie.Need-returns
+unfolding rootsBad
+returns c = cc
+
+pub roots-bad-spec : {M : Type 1} → statement M
+roots-bad-spec = tie.close (tie.spec (λ c κs. search needs) (λ c κs. search needs) returns)
