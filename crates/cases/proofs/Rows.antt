@@ -7,7 +7,7 @@ use borrow.Author.Tests.{eqb-true}
 use Rattle.descriptor.specs.Bytes.{digits, bytesOf}
 use Rattle.descriptor.specs.Bits.{setBit, clearBit}
 use Rattle.descriptor.proofs.Tests.{and-true}
-use Rattle.vmsa.specs.Geometry.{pageSize, strideBits, unaligned, pageOf, levelOf, shiftOf, span, blockAt, firstLeft, cut, outputBits, outputLimit}
+use Rattle.geometry.specs.Geometry.{pageSize, strideBits, unaligned, pageOf, levelOf, shiftOf, span, blockAt, firstLeft, cut, outputBits, outputLimit}
 use Rattle.vmsa.specs.Attributes.{attribute, device, normal}
 use Rattle.refusals.specs.Tests.{memoryPoolBad, poolAddressBad, tszBad, sizesBad, rootBad, rootsBad, attributeBad, attributesBad, accessSizeBad, lastByte, crossing}
 use Rattle.checks.specs.Order.{walkCheck}

@@ -9,7 +9,7 @@ use borrow.Author.Tests.{ltb-false, leb-false, not-false, eqb-true}
 use Rattle.descriptor.specs.Bits.{pick}
 use Rattle.descriptor.proofs.Tests.{or-false}
 use Rattle.vmsa.specs.Limits.{memoryLimit, poolLimit, addressLimit, tszLeast, tszMost, outputMost, pageBits, Sized}
-use Rattle.vmsa.specs.Geometry.{pageSize, unaligned, pageOf}
+use Rattle.geometry.specs.Geometry.{pageSize, unaligned, pageOf}
 use Rattle.vmsa.specs.Kinds.{isFetch, isProbe}
 use Rattle.vmsa.specs.declared.Regime.{Regime}
 use Rattle.vmsa.specs.declared.Pool.{Pool}

@@ -4,7 +4,7 @@ use mathlib.Core.Bool.{Bool, false, not, _&&_, _||_}
 use mathlib.Core.List.{List, [], _∷_}
 use Rattle.descriptor.specs.Bits.{pick}
 use Rattle.vmsa.specs.Limits.{pageBits}
-use Rattle.vmsa.specs.Geometry.{levelOf, span, cut}
+use Rattle.geometry.specs.Geometry.{levelOf, span, cut}
 use Rattle.vmsa.specs.Kinds.{isProbe, writes}
 use Rattle.vmsa.specs.Fields.{shareability, af, nonglobal, setAf, clearAp2}
 use Rattle.vmsa.specs.Answers.{Result, success, fault, codeOf, view}

@@ -50,8 +50,8 @@ fn output_of(a: Access, l: Leaf) -> u64
     requires { ⌜ l .left ≤ 3 ⌝ }
     ensures { λ r. ⌜ r ≡ outputOf a l ⌝ }
 {
-    let span = vmsa::span(vmsa::PAGE_BITS, l.left);
-    vmsa::cut(l.value, span) + a.address.0 % span
+    let span = geometry::span(vmsa::PAGE_BITS, l.left);
+    geometry::cut(l.value, span) + a.address.0 % span
 }
 
 fn failing(l: Leaf, reads: u8, kind: FaultKind) -> Verdict
@@ -60,7 +60,7 @@ fn failing(l: Leaf, reads: u8, kind: FaultKind) -> Verdict
 {
     let fault = Fault {
         kind: kind,
-        level: vmsa::level(l.left),
+        level: geometry::level(l.left),
         cacheable: descriptor::bit(l.value, vmsa::AF),
         reads: reads,
     };
@@ -82,7 +82,7 @@ pub fn success(r: Regime, a: Access, l: Leaf, reads: u8) -> Success
         attribute: permission::attribute_of(r, l),
         shareability: descriptor::field(l.value, 8, 2) as u8,
         nonglobal: descriptor::bit(l.value, vmsa::NG),
-        level: vmsa::level(l.left),
+        level: geometry::level(l.left),
         accessed: flag,
         dirtied: dirty_due(r, a, l),
         cacheable: descriptor::bit(l.value, vmsa::AF) | flag,

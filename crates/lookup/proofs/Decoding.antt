@@ -10,8 +10,8 @@ use borrow.Author.Tests.{eqb-true, eqb-false, leb-true, leb-false}
 use Rattle.descriptor.specs.Bits.{pick, bit}
 use Rattle.descriptor.proofs.Tests.{clash, and-true, or-false, differ, pick-both}
 use Rattle.vmsa.specs.Limits.{addressLimit}
-use Rattle.vmsa.specs.Geometry.{pageSize, shiftOf, span, blockAt, cut, Paged}
-use Rattle.vmsa.proofs.Geometry.{cut-lt, shift-least}
+use Rattle.geometry.specs.Geometry.{pageSize, shiftOf, span, blockAt, cut, Paged}
+use Rattle.geometry.proofs.Geometry.{cut-lt, shift-least}
 use Rattle.vmsa.specs.declared.PhysAddr.{PhysAddr}
 use Rattle.vmsa.specs.declared.FaultKind.the-variants.{Translation, AddressSize}
 use Rattle.lookup.specs.declared.Next.{Next}

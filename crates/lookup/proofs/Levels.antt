@@ -10,7 +10,7 @@ use borrow.Author.Tests.{eqb-false, not-true, le-leb, lt-leb}
 use Rattle.descriptor.specs.Bits.{bit}
 use Rattle.descriptor.proofs.Tests.{and-true}
 use Rattle.vmsa.specs.Limits.{pageBits}
-use Rattle.vmsa.specs.Geometry.{levelOf, firstLeft, outputLimit}
+use Rattle.geometry.specs.Geometry.{levelOf, firstLeft, outputLimit}
 use Rattle.vmsa.specs.declared.Regime.{Regime}
 use Rattle.vmsa.specs.declared.Range.{Range}
 use Rattle.vmsa.specs.declared.PhysAddr.{PhysAddr}

@@ -7,7 +7,7 @@ use native.Mathlib.Omega.{arith}
 use lib.Dec.{lit≤}
 use lib.ListN.{length}
 use Rattle.descriptor.specs.Bytes.{desc}
-use Rattle.vmsa.specs.Geometry.{levelOf}
+use Rattle.geometry.specs.Geometry.{levelOf}
 use Rattle.vmsa.specs.declared.FaultKind.{FaultKind}
 use Rattle.vmsa.specs.declared.FaultKind.the-variants.{AddressSize, Translation, AccessFlag, Permission, ExternalAbort, Alignment}
 use Rattle.lookup.specs.declared.Ending.the-variants as ending

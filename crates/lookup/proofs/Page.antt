@@ -7,7 +7,7 @@ use lib.Dec.{leb, eqb}
 use lib.Pow.{shr-shr, field}
 use Rattle.descriptor.specs.Bits.{pick, bit}
 use Rattle.vmsa.specs.Limits.{pageBits, tszMost, Sized}
-use Rattle.vmsa.specs.Geometry.{levelOf, pageSize, pageOf, shiftOf, span, strideBits, firstLeft, outputLimit}
+use Rattle.geometry.specs.Geometry.{levelOf, pageSize, pageOf, shiftOf, span, strideBits, firstLeft, outputLimit}
 use Rattle.vmsa.specs.declared.Regime.{Regime}
 use Rattle.vmsa.specs.declared.Range.{Range}
 use Rattle.vmsa.specs.declared.PhysAddr.{PhysAddr}

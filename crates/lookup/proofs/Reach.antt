@@ -11,8 +11,8 @@ use Rattle.descriptor.specs.Bytes.{desc}
 use Rattle.descriptor.specs.Bits.{pick}
 use Rattle.descriptor.proofs.Tests.{clash, and-true, pick-both}
 use Rattle.vmsa.specs.Limits.{pageBits, tszLeast, Sized}
-use Rattle.vmsa.specs.Geometry.{levelOf, firstLeft, outputLimit, Paged}
-use Rattle.vmsa.proofs.Geometry.{paged, first-le}
+use Rattle.geometry.specs.Geometry.{levelOf, firstLeft, outputLimit, Paged}
+use Rattle.geometry.proofs.Geometry.{paged, first-le}
 use Rattle.vmsa.specs.declared.Regime.{Regime}
 use Rattle.vmsa.specs.declared.PhysAddr.{PhysAddr}
 use Rattle.vmsa.specs.declared.FaultKind.{FaultKind}

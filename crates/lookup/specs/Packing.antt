@@ -3,7 +3,7 @@ use Prim.Native.Nat.{ℕ, _+_, _*_, _≤_}
 use mathlib.Core.List.{List, [], _∷_}
 use mathlib.Core.Path.{_≡_}
 use lib.ListN.{length, getD}
-use Rattle.vmsa.specs.Geometry.{levelOf}
+use Rattle.geometry.specs.Geometry.{levelOf}
 use Rattle.vmsa.specs.declared.FaultKind.{FaultKind}
 use Rattle.vmsa.specs.declared.FaultKind.the-variants.{AddressSize, Translation, AccessFlag, Permission, ExternalAbort, Alignment}
 use Rattle.lookup.specs.declared.Word.the-variants.{Value}

@@ -7,7 +7,7 @@ use lib.ListN.{length}
 use Rattle.descriptor.specs.Bytes.{desc}
 use Rattle.descriptor.specs.Bits.{pick, bit}
 use Rattle.vmsa.specs.Limits.{addressLimit, pageBits}
-use Rattle.vmsa.specs.Geometry.{levelOf, pageSize, span, strideBits, blockAt, firstLeft, cut, outputLimit}
+use Rattle.geometry.specs.Geometry.{levelOf, pageSize, span, strideBits, blockAt, firstLeft, cut, outputLimit}
 use Rattle.vmsa.specs.declared.Regime.{Regime}
 use Rattle.vmsa.specs.declared.Range.{Range}
 use Rattle.vmsa.specs.declared.FaultKind.the-variants.{AddressSize, Translation, ExternalAbort}

@@ -2,7 +2,7 @@
 use Prim.Native.Nat.{ℕ, _+_}
 use mathlib.Core.List.{List, [], _∷_}
 use lib.ListN.{length}
-use Rattle.vmsa.specs.Geometry.{levelOf}
+use Rattle.geometry.specs.Geometry.{levelOf}
 use Rattle.vmsa.specs.declared.FaultKind.{FaultKind}
 use Rattle.lookup.specs.declared.Ending.the-variants as ending
 use Rattle.lookup.specs.declared.Located.{Located}

@@ -2,7 +2,7 @@
 ghost use mathlib.Core.Path.{_≡_};
 ghost use Prim.Native.Nat.{suc, _+_, _*_, _≤_, _<_, _^_};
 ghost use Rattle.vmsa.specs.Limits.{addressLimit, tszLeast, tszMost, Sized};
-ghost use Rattle.vmsa.specs.Geometry.{levelOf, Paged};
+ghost use Rattle.geometry.specs.Geometry.{levelOf, Paged};
 ghost use Rattle.lookup.specs.Trace.{fault, ended, shown};
 ghost use Rattle.lookup.specs.Steps.{invalid as invalidAt, isTable, addressIn, decoded, Sound, fetched, context, entryAt, followed, descend, upper as upperAt, rangeOf, outside as outsideAt, locate as locateAt};
 ghost use Rattle.lookup.specs.Packing.{kindNumber, kindOf, joined, packed, Packs};
@@ -104,14 +104,14 @@ fn pack(reads: u8, left: u8, number: u64, address: u64) -> u64
     requires { ⌜ (reads ≤ 4) × (left ≤ 3) × (number ≤ 6) × (address < 2 ^ 49) ⌝ }
     ensures { λ n. ⌜ n ≡ joined reads (levelOf left) number address ⌝ }
 {
-    reads as u64 + READS * (vmsa::level(left) as u64 + LEVELS * (number + ENDINGS * address))
+    reads as u64 + READS * (geometry::level(left) as u64 + LEVELS * (number + ENDINGS * address))
 }
 
 fn invalid(p: u8, left: u8, v: u64) -> bool
     requires { ⌜ Paged p × (left ≤ 3) ⌝ }
     ensures { λ r. ⌜ r ≡ invalidAt p left v ⌝ }
 {
-    !descriptor::bit(v, 0) | !descriptor::bit(v, 1) & !vmsa::block_at(p, left)
+    !descriptor::bit(v, 0) | !descriptor::bit(v, 1) & !geometry::block_at(p, left)
 }
 
 fn is_table(left: u8, v: u64) -> bool
@@ -126,9 +126,9 @@ fn address_in(p: u8, left: u8, v: u64) -> u64
     ensures { λ r. ⌜ (r ≡ addressIn p left v) × (r < addressLimit) ⌝ }
 {
     if is_table(left, v) {
-        return vmsa::cut(v, vmsa::page_size(p));
+        return geometry::cut(v, geometry::page_size(p));
     }
-    vmsa::cut(v, vmsa::span(p, left))
+    geometry::cut(v, geometry::span(p, left))
 }
 
 // Steps 4 and 5: what the descriptor v says at a level.
@@ -170,7 +170,7 @@ pub fn entry_at(c: Context, left: u8, table: PhysAddr) -> PhysAddr
     ensures { λ r. ⌜ (r .0 ≡ entryAt c left (table .0)) × (r .0 < 2 ^ 49) ⌝ }
 {
     let p = c.page;
-    PhysAddr(table.0 + 8 * (c.input / vmsa::span(p, left) % vmsa::entries(p)))
+    PhysAddr(table.0 + 8 * (c.input / geometry::span(p, left) % geometry::entries(p)))
 }
 
 // Reads the entry of a table, and follows it.
@@ -242,7 +242,7 @@ fn unpack(pool: &[u8], base: PhysAddr, n: u64) -> Located
         address: PhysAddr(address),
         leaf: Leaf {
             value: descriptor::load(pool, (address - base.0) as usize),
-            left: vmsa::level(level),
+            left: geometry::level(level),
         },
     }
 }
@@ -279,14 +279,14 @@ pub fn locate(pool: &[u8], r: Regime, a: VirtAddr) -> Located
     if range.disabled | outside(t, a) {
         return failed(FaultKind::Translation, 0, 0);
     }
-    let limit = vmsa::output_limit(r.output);
+    let limit = geometry::output_limit(r.output);
     let root = range.root;
     if limit <= root.0 {
         return failed(FaultKind::AddressSize, 0, 0);
     }
     let base = r.pool.address;
     let input = a.0 % descriptor::power(64 - t);
-    let left = vmsa::first_left(vmsa::PAGE_BITS, t);
+    let left = geometry::first_left(vmsa::PAGE_BITS, t);
     let n = enter(pool, base.0, limit, input, vmsa::PAGE_BITS, root.0, left, 0);
     unpack(pool, base, n)
 }

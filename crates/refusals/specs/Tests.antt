@@ -3,7 +3,7 @@ use Prim.Native.Nat.{ℕ, zero, suc, _+_, _-_, _%_, _^_}
 use mathlib.Core.Bool.{Bool, true, false, not, _&&_, _||_}
 use lib.Dec.{leb, ltb, eqb}
 use Rattle.vmsa.specs.Limits.{memoryLimit, poolLimit, addressLimit, tszLeast, tszMost, outputMost, pageBits}
-use Rattle.vmsa.specs.Geometry.{unaligned, pageOf}
+use Rattle.geometry.specs.Geometry.{unaligned, pageOf}
 use Rattle.vmsa.specs.Kinds.{isFetch, isProbe}
 use Rattle.vmsa.specs.Attributes.{attribute, device, normal}
 use Rattle.vmsa.specs.declared.Regime.{Regime}

@@ -24,8 +24,8 @@ pub fn memory_pool_bad(n: usize, pool: Pool) -> bool
     ensures { λ r. ⌜ r ≡ memoryPoolBad n pool ⌝ }
 {
     (vmsa::MEMORY_LIMIT < n)
-        | vmsa::unaligned(vmsa::PAGE_BITS, pool.start as u64)
-        | vmsa::unaligned(vmsa::PAGE_BITS, pool.length as u64)
+        | geometry::unaligned(vmsa::PAGE_BITS, pool.start as u64)
+        | geometry::unaligned(vmsa::PAGE_BITS, pool.length as u64)
         | (pool.length == 0)
         | (vmsa::POOL_LIMIT < pool.length)
         | passes(n, pool.start, pool.length)
@@ -39,7 +39,7 @@ pub fn pool_address_bad(pool: Pool) -> bool
     if vmsa::ADDRESS_LIMIT < address {
         return true;
     }
-    vmsa::unaligned(vmsa::PAGE_BITS, address)
+    geometry::unaligned(vmsa::PAGE_BITS, address)
         | (vmsa::ADDRESS_LIMIT - address < (pool.length as u64))
 }
 
@@ -59,7 +59,7 @@ pub fn sizes_bad(r: Regime) -> bool
 fn root_bad(root: PhysAddr) -> bool
     ensures { λ r. ⌜ r ≡ rootBad (root .0) ⌝ }
 {
-    vmsa::unaligned(vmsa::PAGE_BITS, root.0) | (vmsa::ADDRESS_LIMIT <= root.0)
+    geometry::unaligned(vmsa::PAGE_BITS, root.0) | (vmsa::ADDRESS_LIMIT <= root.0)
 }
 
 // 4: of the roots.
@@ -127,8 +127,8 @@ pub fn crosses(a: Access) -> bool
     ensures { λ r. ⌜ r ≡ crossing a ⌝ }
 {
     let last = VirtAddr(last_byte(a));
-    let first_page = vmsa::page_of(vmsa::PAGE_BITS, a.address);
-    let last_page = vmsa::page_of(vmsa::PAGE_BITS, last);
+    let first_page = geometry::page_of(vmsa::PAGE_BITS, a.address);
+    let last_page = geometry::page_of(vmsa::PAGE_BITS, last);
     first_page != last_page
 }
 

@@ -10,8 +10,8 @@ use Rattle.descriptor.specs.Bits.{pick, bit, field, clearBit}
 use Rattle.descriptor.proofs.Tests.{and-true, or-none, differ}
 use Rattle.descriptor.proofs.BitLaws.{clear-above, clear-below, clear-bit, clear-other}
 use Rattle.vmsa.specs.Limits.{addressLimit, pageBits}
-use Rattle.vmsa.specs.Geometry.{levelOf, shiftOf, span, cut}
-use Rattle.vmsa.proofs.Geometry.{shift-least}
+use Rattle.geometry.specs.Geometry.{levelOf, shiftOf, span, cut}
+use Rattle.geometry.proofs.Geometry.{shift-least}
 use Rattle.vmsa.specs.Answers.{Result, success, fault, refused, cacheableIn, dirtiedIn}
 use Rattle.vmsa.specs.Kinds.{isProbe, writes}
 use Rattle.vmsa.specs.Fields.{attributeIndex, ap1, ap2, shareability, af, nonglobal, dbm, pxn, uxn, clearAp2}

@@ -15,8 +15,8 @@ use Rattle.descriptor.proofs.Laws.{length-put, desc-put-aligned}
 use Rattle.descriptor.proofs.Numbers.{desc-small, bytes-take, bytes-drop}
 use Rattle.descriptor.proofs.BitLaws.{set-above, clear-above, set-other, clear-other}
 use Rattle.vmsa.specs.Limits.{addressLimit, pageBits, Sized}
-use Rattle.vmsa.specs.Geometry.{pageSize}
-use Rattle.vmsa.proofs.Geometry.{paged}
+use Rattle.geometry.specs.Geometry.{pageSize}
+use Rattle.geometry.proofs.Geometry.{paged}
 use Rattle.vmsa.specs.Answers.{Result, codeOf, dirtiedIn}
 use Rattle.vmsa.specs.declared.Regime.{Regime}
 use Rattle.vmsa.specs.declared.Access.{Access}

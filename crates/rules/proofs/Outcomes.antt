@@ -6,7 +6,7 @@ use mathlib.Core.Option.{Option, none, some}
 use mathlib.Core.Path.{_≡_, refl, subst, subst⁻¹}
 use lib.ListN.{length}
 use Rattle.vmsa.specs.Fields.{af}
-use Rattle.vmsa.specs.Geometry.{levelOf}
+use Rattle.geometry.specs.Geometry.{levelOf}
 use Rattle.vmsa.specs.Answers.{fault as faulted, codeOf}
 use Rattle.vmsa.specs.declared.Regime.{Regime}
 use Rattle.vmsa.specs.declared.Access.{Access}

@@ -13,7 +13,7 @@ use Rattle.descriptor.specs.Bits.{pick, bit}
 use Rattle.descriptor.proofs.Tests.{differ, pick-both}
 use Rattle.descriptor.proofs.Laws.{desc-put}
 use Rattle.vmsa.specs.Limits.{pageBits}
-use Rattle.vmsa.specs.Geometry.{levelOf, outputBits, outputLimit}
+use Rattle.geometry.specs.Geometry.{levelOf, outputBits, outputLimit}
 use Rattle.vmsa.specs.Kinds.{writes}
 use Rattle.vmsa.specs.Fields.{af, ap2}
 use Rattle.vmsa.specs.Answers.{Faulted, success, fault as faulted, codeOf}
@@ -36,7 +36,7 @@ use Rattle.rules.specs.Steps.{AllPass, FirstFails, leafSteps}
 use Rattle.rules.specs.Rule2.{stepsOf, traceOf, LeafOf, offset, valueAfter, Placed, Right, FlagUpdate, DirtyUpdate, Marked, Rule2}
 use Rattle.walk.proofs.Parts.{getD-put}
 use Rattle.descriptor.proofs.Numbers.{desc-small}
-use Rattle.vmsa.proofs.Geometry.{least-output}
+use Rattle.geometry.proofs.Geometry.{least-output}
 use Rattle.rules.proofs.StepLaws.{Fault, firstFault, passes-none, fails-some, none-passes, some-fails}
 use Rattle.rules.proofs.Outcomes.{endCacheable}
 use Rattle.rules.proofs.Updates.{updated-none, updated-other, updated-af, updated-ap2, updated-small, writes-asks, flag-due, dirty-due, probe-due, leaf-clear, flag-after, write-writable, dirty-after, leaf-kind}

@@ -9,7 +9,7 @@ use lib.Dec.{leb, eqb}
 use Rattle.descriptor.specs.Bits.{pick, bit}
 use Rattle.descriptor.proofs.Tests.{differ, and-true}
 use Rattle.vmsa.specs.Limits.{pageBits}
-use Rattle.vmsa.specs.Geometry.{levelOf, firstLeft, outputLimit}
+use Rattle.geometry.specs.Geometry.{levelOf, firstLeft, outputLimit}
 use Rattle.vmsa.specs.declared.Regime.{Regime}
 use Rattle.vmsa.specs.declared.Access.{Access}
 use Rattle.vmsa.specs.declared.Leaf.{Leaf}

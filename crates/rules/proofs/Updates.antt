@@ -11,7 +11,7 @@ use borrow.Author.Tests.{not-true, not-false}
 use Rattle.descriptor.specs.Bits.{bit, setBit}
 use Rattle.descriptor.proofs.Tests.{differ, and-true, or-false}
 use Rattle.descriptor.proofs.BitLaws.{set-bit, clear-bit, set-other, clear-other, set-small, clear-small}
-use Rattle.vmsa.specs.Geometry.{levelOf}
+use Rattle.geometry.specs.Geometry.{levelOf}
 use Rattle.vmsa.specs.Kinds.{isFetch, isProbe, asksWrite, writes}
 use Rattle.vmsa.specs.Fields.{af, ap2, dbm}
 use Rattle.vmsa.specs.declared.Regime.{Regime}

@@ -13,8 +13,8 @@ use Rattle.descriptor.specs.Bits.{pick}
 use Rattle.descriptor.proofs.Tests.{clash, pick-both}
 use Rattle.descriptor.proofs.Laws.{length-put}
 use Rattle.vmsa.specs.Limits.{pageBits}
-use Rattle.vmsa.specs.Geometry.{levelOf, pageSize, unaligned}
-use Rattle.vmsa.proofs.Geometry.{paged}
+use Rattle.geometry.specs.Geometry.{levelOf, pageSize, unaligned}
+use Rattle.geometry.proofs.Geometry.{paged}
 use Rattle.vmsa.specs.Fields.{shareability, nonglobal}
 use Rattle.vmsa.specs.Answers.{Faulted, success, fault as faulted, refused, codeOf, numberOf}
 use Rattle.vmsa.specs.declared.Regime.{Regime}

@@ -8,7 +8,7 @@ use lib.ListN.{length, getD}
 use Rattle.descriptor.specs.Bytes.{Bytes, desc}
 use Rattle.descriptor.specs.Bits.{bit}
 use Rattle.vmsa.specs.Limits.{pageBits}
-use Rattle.vmsa.specs.Geometry.{levelOf, span, cut, outputLimit}
+use Rattle.geometry.specs.Geometry.{levelOf, span, cut, outputLimit}
 use Rattle.vmsa.specs.Kinds.{isProbe, writes}
 use Rattle.vmsa.specs.Attributes.{attribute as attributeByte}
 use Rattle.vmsa.specs.Fields.{attributeIndex, shareability as shareabilityOf, nonglobal as nonglobalOf, af, ap2, dbm}

@@ -15,7 +15,7 @@ use Rattle.descriptor.specs.Bits.{pick}
 use Rattle.descriptor.proofs.Laws.{length-bytes, put-part}
 use Rattle.descriptor.proofs.Tests.{or-false}
 use Rattle.vmsa.specs.Limits.{pageBits, Sized}
-use Rattle.vmsa.specs.Geometry.{pageSize, pageOf}
+use Rattle.geometry.specs.Geometry.{pageSize, pageOf}
 use Rattle.vmsa.specs.Answers.{Result, cacheableIn}
 use Rattle.vmsa.specs.declared.Regime.{Regime}
 use Rattle.vmsa.specs.declared.Access.{Access}

@@ -4,7 +4,7 @@ use mathlib.Core.List.{List}
 use lib.ListN.{length}
 use Rattle.descriptor.specs.Bytes.{bytesOf}
 use Rattle.vmsa.specs.Limits.{pageBits}
-use Rattle.vmsa.specs.Geometry.{pageSize, pageOf}
+use Rattle.geometry.specs.Geometry.{pageSize, pageOf}
 use Rattle.vmsa.specs.Answers.{Result, success, fault as faultWith, refused, codeOf, dirtiedIn}
 use mathlib.Core.Bool.{Bool, true, false, not, _||_}
 use Rattle.descriptor.specs.Bits.{pick}

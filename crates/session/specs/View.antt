@@ -8,7 +8,7 @@ use lib.Dec.{leb}
 use lib.ListN.{getD, set as setAt, replicate}
 use Rattle.descriptor.specs.Bits.{pick}
 use Rattle.vmsa.specs.Limits.{pageBits}
-use Rattle.vmsa.specs.Geometry.{pageOf}
+use Rattle.geometry.specs.Geometry.{pageOf}
 use Rattle.vmsa.specs.Words.{flag, regimeOf}
 use Rattle.vmsa.specs.Answers.{Result, success, fault, refused as refusedWith, view, dirtiedIn}
 use Rattle.vmsa.specs.declared.RegimeWords.{RegimeWords}

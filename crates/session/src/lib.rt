@@ -108,7 +108,7 @@ impl Entry {
         requires { ⌜ 0 < a .size ⌝ }
         ensures { λ x. ⌜ askedReply x ≡ entryAnswer ours r a (entryView self) ⌝ }
     {
-        let page = vmsa::page_of(vmsa::PAGE_BITS, a.address);
+        let page = geometry::page_of(vmsa::PAGE_BITS, a.address);
         let Held::Leaf(leaf) = self.held_of(page) else {
             return Asked::Walk;
         };
@@ -125,7 +125,7 @@ impl Entry {
         requires { ⌜ 0 < a .size ⌝ }
         ensures { λ b. ⌜ b ≡ succeeds (entryAnswer ours r a (entryView self)) ⌝ }
     {
-        let page = vmsa::page_of(vmsa::PAGE_BITS, a.address);
+        let page = geometry::page_of(vmsa::PAGE_BITS, a.address);
         let Held::Leaf(leaf) = self.held_of(page) else {
             return false;
         };
@@ -193,7 +193,7 @@ pub fn miss(memory: &mut [u8], r: Regime, a: Access) -> walk::Walked
 pub fn entry_of(a: Access) -> usize
     ensures { λ i. ⌜ (i ≡ entryFor a) × (i < entryCount) ⌝ }
 {
-    (vmsa::page_of(vmsa::PAGE_BITS, a.address) as usize) % ENTRIES
+    (geometry::page_of(vmsa::PAGE_BITS, a.address) as usize) % ENTRIES
 }
 
 // An access past its checks: its page's entry answers, or else the walk, whose leaf is kept.
@@ -210,7 +210,7 @@ fn answer_entry(entry: Entry, memory: &mut [u8], r: Regime, a: Access) -> Filled
             let missed = miss(memory, r, a);
             let kept = missed.kept;
             let answer = missed.answer;
-            let page = vmsa::page_of(vmsa::PAGE_BITS, a.address);
+            let page = geometry::page_of(vmsa::PAGE_BITS, a.address);
             Filled {
                 entry: entry.keep(page, kept),
                 answer: answer,

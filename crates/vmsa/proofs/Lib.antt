@@ -1,3 +1,1 @@
-pub mod Geometry
 pub mod Words
-pub mod Levels

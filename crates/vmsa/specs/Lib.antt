@@ -1,5 +1,4 @@
 pub mod Limits
-pub mod Geometry
 pub mod Kinds
 pub mod Attributes
 pub mod Fields

@@ -14,8 +14,8 @@ use Rattle.descriptor.proofs.Tests.{clash}
 use Rattle.descriptor.specs.Bytes.{put}
 use Rattle.descriptor.specs.Bits.{pick}
 use Rattle.vmsa.specs.Limits.{pageBits, Sized}
-use Rattle.vmsa.specs.Geometry.{levelOf, pageSize, unaligned}
-use Rattle.vmsa.proofs.Geometry.{paged}
+use Rattle.geometry.specs.Geometry.{levelOf, pageSize, unaligned}
+use Rattle.geometry.proofs.Geometry.{paged}
 use Rattle.vmsa.specs.declared.Regime.{Regime}
 use Rattle.vmsa.specs.declared.Access.{Access}
 use Rattle.vmsa.specs.declared.Leaf.{Leaf}

@@ -2,7 +2,7 @@ use borrow.Author.Needs.{needs}
 use native.Mathlib.Omega.{arith}
 use Prim.Native.Nat.{ℕ, _<_, _+_, _*_}
 use mathlib.Core.Path.{sym, ap, _∙_}
-use Rattle.vmsa.specs.Geometry.{levelOf}
+use Rattle.geometry.specs.Geometry.{levelOf}
 use Rattle.lookup.specs.Packing.{joined, packed}
 use Rattle.lookup.specs.Steps.{context, descend, Sound, fetched}
 use Rattle.lookup.specs.declared.Next.the-variants.{Table}

@@ -1,9 +1,9 @@
 use borrow.Author.Needs.{needs}
 use mathlib.Core.Path.{refl}
 use mathlib.Core.Path.{refl}
-use Rattle.vmsa.specs.Geometry.{levelOf}
-use Rattle.vmsa.proofs.level.Statement.{statement}
-use Rattle.vmsa.proofs.level.Tie as tie
+use Rattle.geometry.specs.Geometry.{levelOf}
+use Rattle.geometry.proofs.level.Statement.{statement}
+use Rattle.geometry.proofs.level.Tie as tie
 
 returns : tie.Need-returns
 unfolding levelOf

@@ -4,8 +4,8 @@ use mathlib.Core.Bool.{Bool, true, false}
 use mathlib.Core.List.{List, [], _∷_, map}
 use mathlib.Core.Path.{_≡_, refl}
 use lib.ListN.{replicate}
 use Rattle.vmsa.specs.Limits.{pageBits}
-use Rattle.vmsa.specs.Geometry.{levelOf, shiftOf, blockAt, firstLeft}
+use Rattle.geometry.specs.Geometry.{levelOf, shiftOf, blockAt, firstLeft}
 
 -- n numbers from a on
 abbrev from : ℕ → ℕ → List ℕ

@@ -1,7 +1,7 @@
 use borrow.Author.Needs.{needs}
-use Rattle.vmsa.specs.Geometry.{pageSize}
-use Rattle.vmsa.proofs.page_size.Statement.{statement}
-use Rattle.vmsa.proofs.page_size.Tie as tie
+use Rattle.geometry.specs.Geometry.{pageSize}
+use Rattle.geometry.proofs.page_size.Statement.{statement}
+use Rattle.geometry.proofs.page_size.Tie as tie
 
 returns : tie.Need-returns
 unfolding pageSize

@@ -1,7 +1,7 @@
 use borrow.Author.Needs.{needs}
-use Rattle.vmsa.specs.Geometry.{blockAt}
-use Rattle.vmsa.proofs.block_at.Statement.{statement}
-use Rattle.vmsa.proofs.block_at.Tie as tie
+use Rattle.geometry.specs.Geometry.{blockAt}
+use Rattle.geometry.proofs.block_at.Statement.{statement}
+use Rattle.geometry.proofs.block_at.Tie as tie
 
 returns : tie.Need-returns
 unfolding blockAt

@@ -4,9 +4,9 @@ use lib.Dec.{lit≤}
 use mathlib.Core.Path.{_≡_}
 use native.Mathlib.Omega.{arith}
 use lib.Dec.{lit≤}
-use Rattle.vmsa.specs.Geometry.{outputBits, outputLimit}
-use Rattle.vmsa.proofs.output_limit.Statement.{statement}
-use Rattle.vmsa.proofs.output_limit.Tie as tie
+use Rattle.geometry.specs.Geometry.{outputBits, outputLimit}
+use Rattle.geometry.proofs.output_limit.Statement.{statement}
+use Rattle.geometry.proofs.output_limit.Tie as tie
 
 returns : tie.Need-returns
 unfolding outputLimit outputBits

@@ -3,10 +3,10 @@ use mathlib.Core.Path.{refl}
 use native.Mathlib.Omega.{arith}
 use mathlib.Core.Path.{refl}
 use native.Mathlib.Omega.{arith}
-use Rattle.vmsa.specs.Geometry.{cut}
-use Rattle.vmsa.proofs.Geometry.{cut-lt}
-use Rattle.vmsa.proofs.cut.Statement.{statement}
-use Rattle.vmsa.proofs.cut.Tie as tie
+use Rattle.geometry.specs.Geometry.{cut}
+use Rattle.geometry.proofs.Geometry.{cut-lt}
+use Rattle.geometry.proofs.cut.Statement.{statement}
+use Rattle.geometry.proofs.cut.Tie as tie
 
 mul-result : tie.Need-mul-result
 unfolding cut

@@ -4,10 +4,10 @@ use lib.Dec.{lit≤}
 use Prim.Native.Nat.{_-_}
 use native.Mathlib.Omega.{arith}
 use lib.Dec.{lit≤}
-use Rattle.vmsa.specs.Geometry.{firstLeft}
-use Rattle.vmsa.proofs.Geometry.{in-level}
-use Rattle.vmsa.proofs.first_left.Statement.{statement}
-use Rattle.vmsa.proofs.first_left.Tie as tie
+use Rattle.geometry.specs.Geometry.{firstLeft}
+use Rattle.geometry.proofs.Geometry.{in-level}
+use Rattle.geometry.proofs.first_left.Statement.{statement}
+use Rattle.geometry.proofs.first_left.Tie as tie
 
 returns : tie.Need-returns
 unfolding firstLeft

@@ -3,10 +3,10 @@ use mathlib.Core.Path.{refl}
 use native.Mathlib.Omega.{arith}
 use mathlib.Core.Path.{refl}
 use native.Mathlib.Omega.{arith}
-use Rattle.vmsa.specs.Geometry.{shiftOf}
-use Rattle.vmsa.proofs.Geometry.{stride-le}
-use Rattle.vmsa.proofs.shift_of.Statement.{statement}
-use Rattle.vmsa.proofs.shift_of.Tie as tie
+use Rattle.geometry.specs.Geometry.{shiftOf}
+use Rattle.geometry.proofs.Geometry.{stride-le}
+use Rattle.geometry.proofs.shift_of.Statement.{statement}
+use Rattle.geometry.proofs.shift_of.Tie as tie
 
 mul-result : tie.Need-mul-result
 mul-result c = omega (arith, stride-le (c .args .p) (c .args .left) (c .pre .0 .most) (c .pre .1))

@@ -6,8 +6,8 @@ use native.Mathlib.Omega.{arith}
 use native.Mathlib.Nat.{mul-le-mul, div-lt-iff-lt-mul, le-div-iff-mul-le, div-mul-le-self}
 use lib.Dec.{lit≤, lit<}
 use lib.Pow.{pow-pos, pow-mono}
 use Rattle.vmsa.specs.Limits.{tszLeast, addressLimit, pageBits}
-use Rattle.vmsa.specs.Geometry.{shiftOf, span, firstLeft, cut, outputBits, Paged}
+use Rattle.geometry.specs.Geometry.{shiftOf, span, firstLeft, cut, outputBits, Paged}
 
 -- the 4 KiB granule is one
 pub paged : Paged pageBits

@@ -1,7 +1,7 @@
 use borrow.Author.Needs.{needs}
-use Rattle.vmsa.specs.Geometry.{pageOf}
-use Rattle.vmsa.proofs.page_of.Statement.{statement}
-use Rattle.vmsa.proofs.page_of.Tie as tie
+use Rattle.geometry.specs.Geometry.{pageOf}
+use Rattle.geometry.proofs.page_of.Statement.{statement}
+use Rattle.geometry.proofs.page_of.Tie as tie
 
 returns : tie.Need-returns
 unfolding pageOf

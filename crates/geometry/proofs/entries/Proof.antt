@@ -3,9 +3,9 @@ use native.Mathlib.Omega.{arith}
 use Prim.Native.Nat.{_^_, _≤_, _-_}
 use native.Mathlib.Omega.{arith}
 use lib.Pow.{pow-mono}
-use Rattle.vmsa.specs.Geometry.{strideBits}
-use Rattle.vmsa.proofs.entries.Statement.{statement}
-use Rattle.vmsa.proofs.entries.Tie as tie
+use Rattle.geometry.specs.Geometry.{strideBits}
+use Rattle.geometry.proofs.entries.Statement.{statement}
+use Rattle.geometry.proofs.entries.Tie as tie
 
 returns : tie.Need-returns
 unfolding strideBits

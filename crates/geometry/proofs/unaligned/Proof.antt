@@ -1,7 +1,7 @@
 use borrow.Author.Needs.{needs}
-use Rattle.vmsa.specs.Geometry.{unaligned}
-use Rattle.vmsa.proofs.unaligned.Statement.{statement}
-use Rattle.vmsa.proofs.unaligned.Tie as tie
+use Rattle.geometry.specs.Geometry.{unaligned}
+use Rattle.geometry.proofs.unaligned.Statement.{statement}
+use Rattle.geometry.proofs.unaligned.Tie as tie
 
 returns : tie.Need-returns
 unfolding unaligned

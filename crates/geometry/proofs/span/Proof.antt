@@ -1,10 +1,10 @@
 use borrow.Author.Needs.{needs}
 use mathlib.Core.Path.{_∙_, _≡_}
 use mathlib.Core.Path.{_≡_, _∙_}
-use Rattle.vmsa.specs.Geometry.{span}
-use Rattle.vmsa.proofs.Geometry.{span-le}
-use Rattle.vmsa.proofs.span.Statement.{statement}
-use Rattle.vmsa.proofs.span.Tie as tie
+use Rattle.geometry.specs.Geometry.{span}
+use Rattle.geometry.proofs.Geometry.{span-le}
+use Rattle.geometry.proofs.span.Statement.{statement}
+use Rattle.geometry.proofs.span.Tie as tie
 
 returns : tie.Need-returns
 unfolding span
