@@ -2,6 +2,14 @@
 ghost use mathlib.Core.Path.{_≡_};
 ghost use Rattle.descriptor.specs.Bits.{pick};
 ghost use Rattle.checks.specs.Order.{firstBefore, regimeRows, memoryRows, regimeCheck, accessCheck, walkCheck, sessionAccessCheck, sessionStoreCheck};
+use refusals::access_size_bad;
+use refusals::attributes_bad;
+use refusals::crosses;
+use refusals::memory_pool_bad;
+use refusals::pool_address_bad;
+use refusals::roots_bad;
+use refusals::sizes_bad;
+use refusals::store_address_bad;
 use vmsa::Access;
 use vmsa::PhysAddr;
 use vmsa::Pool;
@@ -28,23 +36,11 @@ fn first(bad: bool, refusal: Refusal, rest: Checked) -> Checked
 fn regime_before(n: usize, r: Regime, rest: Checked) -> Checked
     ensures { λ x. ⌜ x ≡ firstBefore (regimeRows n r) rest ⌝ }
 {
-    let from5 = first(
-        refusals::attributes_bad(r.attributes),
-        Refusal::Attributes,
-        rest,
-    );
-    let from4 = first(refusals::roots_bad(r), Refusal::Root, from5);
-    let from3 = first(refusals::sizes_bad(r), Refusal::Sizes, from4);
-    let from2 = first(
-        refusals::pool_address_bad(r.pool),
-        Refusal::PoolAddress,
-        from3,
-    );
-    first(
-        refusals::memory_pool_bad(n, r.pool),
-        Refusal::MemoryPool,
-        from2,
-    )
+    let from5 = first(attributes_bad(r.attributes), Refusal::Attributes, rest);
+    let from4 = first(roots_bad(r), Refusal::Root, from5);
+    let from3 = first(sizes_bad(r), Refusal::Sizes, from4);
+    let from2 = first(pool_address_bad(r.pool), Refusal::PoolAddress, from3);
+    first(memory_pool_bad(n, r.pool), Refusal::MemoryPool, from2)
 }
 
 // Setting a regime over a memory of n bytes: 1 to 5.
@@ -58,12 +54,8 @@ pub fn check_regime(n: usize, r: Regime) -> Checked
 pub fn check_access(a: Access) -> Checked
     ensures { λ x. ⌜ x ≡ accessCheck a ⌝ }
 {
-    let from7 = first(
-        refusals::crosses(a),
-        Refusal::PageCrossing,
-        Checked::Accepted,
-    );
-    first(refusals::access_size_bad(a), Refusal::AccessSize, from7)
+    let from7 = first(crosses(a), Refusal::PageCrossing, Checked::Accepted);
+    first(access_size_bad(a), Refusal::AccessSize, from7)
 }
 
 // A plain walk over a memory of n bytes: 1 to 7.
@@ -77,11 +69,7 @@ pub fn check_walk(n: usize, r: Regime, a: Access) -> Checked
 fn memory_before(n: usize, pool: Pool, rest: Checked) -> Checked
     ensures { λ x. ⌜ x ≡ firstBefore (memoryRows n pool) rest ⌝ }
 {
-    first(
-        refusals::memory_pool_bad(n, pool),
-        Refusal::MemoryPool,
-        rest,
-    )
+    first(memory_pool_bad(n, pool), Refusal::MemoryPool, rest)
 }
 
 // An access in a session that has a regime, over a memory of n bytes: 1, 6 and 7.
@@ -96,7 +84,7 @@ pub fn check_session_store(n: usize, pool: Pool, address: PhysAddr) -> Checked
     ensures { λ x. ⌜ x ≡ sessionStoreCheck n pool (address .0) ⌝ }
 {
     let from8 = first(
-        refusals::store_address_bad(pool, address),
+        store_address_bad(pool, address),
         Refusal::StoreAddress,
         Checked::Accepted,
     );
