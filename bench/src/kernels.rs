@@ -3,7 +3,7 @@
 use std::array;
 use std::hint::black_box;
 
-use crate::boundary::{self, Access, Answer, Regime, READ};
+use crate::boundary::{self, Access, Answer, Regime, READ, WRITE};
 use crate::plain;
 
 /// The addresses of every kernel repeat after so many calls.
@@ -20,6 +20,7 @@ pub enum Kernel {
     Walk4,
     Block2,
     Hit,
+    HitFault,
     Miss,
     SetRegime,
     SessionStore,
@@ -35,12 +36,13 @@ pub enum Side {
 }
 
 impl Kernel {
-    pub const ALL: [Kernel; 9] = [
+    pub const ALL: [Kernel; 10] = [
         Kernel::Load,
         Kernel::Store,
         Kernel::Walk4,
         Kernel::Block2,
         Kernel::Hit,
+        Kernel::HitFault,
         Kernel::Miss,
         Kernel::SetRegime,
         Kernel::SessionStore,
@@ -54,6 +56,7 @@ impl Kernel {
             Kernel::Walk4 => "walk4",
             Kernel::Block2 => "block2",
             Kernel::Hit => "hit",
+            Kernel::HitFault => "hit-fault",
             Kernel::Miss => "miss",
             Kernel::SetRegime => "set-regime",
             Kernel::SessionStore => "session-store",
@@ -74,8 +77,18 @@ impl Kernel {
             Kernel::Block2 => 0x4000_0abc + ((i * 37 % 512) << 21),
             // 64 pages, one for each entry.
             Kernel::Hit => 0x40_0abc + ((i * 37 % 64) << 12),
+            // 64 read-only pages, one for each entry.
+            Kernel::HitFault => 0x60_0abc + ((i * 37 % 64) << 12),
             // Two pages of one entry.
             _ => 0x40_0abc + ((i % 2 * 64) << 12),
+        }
+    }
+
+    /// The kind of its accesses.
+    fn kind(self) -> u8 {
+        match self {
+            Kernel::HitFault => WRITE,
+            _ => READ,
         }
     }
 }
@@ -112,7 +125,7 @@ pub fn regime() -> Regime {
 }
 
 /// Tables of 512 pages from 0x400000 and of 512 blocks from 0x40000000, every
-/// leaf accessed and dirty.
+/// leaf accessed and dirty; and of 64 read-only pages from 0x600000.
 pub fn memory() -> Vec<u8> {
     let mut memory = vec![0; MEMORY];
     let mut put = |offset: usize, value: u64| {
@@ -122,10 +135,14 @@ pub fn memory() -> Vec<u8> {
     put(0x1000, 0x4000_2003);
     put(0x1008, 0x4000_4003);
     put(0x2010, 0x4000_3003);
+    put(0x2018, 0x4000_5003);
     for i in 0..512 {
         let at = 8 * i as usize;
         put(0x3000 + at, 0x0008_0000_8000_0743 | i << 12);
         put(0x4000 + at, 0x0008_0001_0000_0741 | i << 21);
+    }
+    for i in 0..64 {
+        put(0x5000 + 8 * i as usize, 0x8020_07c3 | i << 12);
     }
     memory
 }
@@ -154,7 +171,7 @@ impl Bed {
             bed.plain.set_regime(&bed.memory[1], &bed.regime),
         ];
         assert_eq!(refusals, [0, 0]);
-        if kernel == Kernel::Hit {
+        if matches!(kernel, Kernel::Hit | Kernel::HitFault) {
             bed.run(kernel, Side::Ours, 64);
             bed.run(kernel, Side::Plain, 64);
         }
@@ -175,6 +192,7 @@ impl Bed {
             plain,
         } = self;
         let (regime, addresses) = (&*regime, &*addresses);
+        let kind = kernel.kind();
         let (memory, plain_memory) = (&mut memory[..], &mut plain_memory[..]);
         match (kernel, side) {
             (Kernel::Load, Side::Ours) => offsets(calls, move |at| boundary::load(memory, at)),
@@ -188,21 +206,25 @@ impl Bed {
                 0
             }),
             (Kernel::Walk4 | Kernel::Block2, Side::Ours) => {
-                answers(calls, addresses, move |access| {
+                answers(calls, kind, addresses, move |access| {
                     boundary::walk(memory, black_box(regime), access)
                 })
             }
             (Kernel::Walk4 | Kernel::Block2, Side::Plain) => {
-                answers(calls, addresses, move |access| {
+                answers(calls, kind, addresses, move |access| {
                     plain::walk(plain_memory, black_box(regime), access)
                 })
             }
-            (Kernel::Hit | Kernel::Miss, Side::Ours) => answers(calls, addresses, move |access| {
-                black_box(&mut *ours).access(memory, access)
-            }),
-            (Kernel::Hit | Kernel::Miss, Side::Plain) => answers(calls, addresses, move |access| {
-                black_box(&mut *plain).access(plain_memory, access)
-            }),
+            (Kernel::Hit | Kernel::HitFault | Kernel::Miss, Side::Ours) => {
+                answers(calls, kind, addresses, move |access| {
+                    black_box(&mut *ours).access(memory, access)
+                })
+            }
+            (Kernel::Hit | Kernel::HitFault | Kernel::Miss, Side::Plain) => {
+                answers(calls, kind, addresses, move |access| {
+                    black_box(&mut *plain).access(plain_memory, access)
+                })
+            }
             (Kernel::SetRegime, Side::Ours) => codes(calls, move || {
                 black_box(&mut *ours).set_regime(memory, black_box(regime))
             }),
@@ -236,7 +258,7 @@ impl Bed {
             }
             (_, Side::Loop) => {
                 let answer = Answer::default();
-                answers(calls, addresses, move |_| *black_box(&answer))
+                answers(calls, kind, addresses, move |_| *black_box(&answer))
             }
         }
     }
@@ -253,14 +275,19 @@ impl Bed {
 /// Neither byte goes to the top of the sum: there the compiler would take it
 /// out of a wider load, which would wait for the byte stores of the call.
 #[inline(never)]
-fn answers(calls: u64, addresses: &[u64; PERIOD], mut call: impl FnMut(&Access) -> Answer) -> u64 {
+fn answers(
+    calls: u64,
+    kind: u8,
+    addresses: &[u64; PERIOD],
+    mut call: impl FnMut(&Access) -> Answer,
+) -> u64 {
     let mut sum = 0u64;
     for i in 0..calls {
         let access = Access {
             address: addresses[i as usize % PERIOD],
             size: black_box(4),
             el0: black_box(1),
-            kind: black_box(READ),
+            kind: black_box(kind),
         };
         let answer = call(black_box(&access));
         let rest = u64::from(answer.tag) << 8 | u64::from(answer.reads);
