@@ -2,7 +2,7 @@
 ghost use mathlib.Core.Path.{_≡_};
 ghost use Prim.Native.Nat.{_≤_, _<_};
 ghost use Rattle.vmsa.specs.Answers.{view};
-ghost use Rattle.decision.specs.Decision.{flagDue, dirtyDue, updated as updatedTo, outputOf, failing as failingAt, passing as passingAt, decision, passesClean, seen};
+ghost use Rattle.decision.specs.Decision.{flagDue, dirtyDue, updated as updatedTo, outputOf, failing as failingAt, passing as passingAt, decision, standing as standingOf, seen};
 use vmsa::Access;
 use vmsa::Answer;
 use vmsa::Fault;
@@ -11,6 +11,13 @@ use vmsa::Leaf;
 use vmsa::PhysAddr;
 use vmsa::Regime;
 use vmsa::Success;
+
+// How a held leaf stands to an access: it answers with a success, with a fault, or leaves it to the walk.
+pub enum Stance {
+    Success,
+    Fault,
+    Walk,
+}
 
 // What a leaf gives an access: the answer, whether the leaf changes, and its value then.
 pub struct Verdict {
@@ -54,16 +61,23 @@ fn output_of(a: Access, l: Leaf) -> u64
     geometry::cut(l.value, span) + a.address.0 % span
 }
 
-fn failing(l: Leaf, reads: u8, kind: FaultKind) -> Verdict
+fn stopped(l: Leaf, reads: u8, kind: FaultKind) -> Fault
     requires { ⌜ l .left ≤ 3 ⌝ }
-    ensures { λ v. ⌜ seen v ≡ failingAt l reads kind ⌝ }
+    ensures { λ f. ⌜ view (Answer.Fault f) ≡ failingAt l reads kind .result ⌝ }
 {
-    let fault = Fault {
+    Fault {
         kind: kind,
         level: geometry::level(l.left),
         cacheable: descriptor::bit(l.value, vmsa::AF),
         reads: reads,
-    };
+    }
+}
+
+fn failing(l: Leaf, reads: u8, kind: FaultKind) -> Verdict
+    requires { ⌜ l .left ≤ 3 ⌝ }
+    ensures { λ v. ⌜ seen v ≡ failingAt l reads kind ⌝ }
+{
+    let fault = stopped(l, reads, kind);
     Verdict {
         answer: Answer::Fault(fault),
         update: false,
@@ -121,16 +135,36 @@ pub fn judge(r: Regime, a: Access, l: Leaf, reads: u8) -> Verdict
     passing(r, a, l, reads)
 }
 
-// Whether steps 6 to 8 let the access pass, and it does not make the leaf dirty.
-pub fn passes_clean(r: Regime, a: Access, l: Leaf) -> bool
+// How a held leaf stands to an access: one that makes it dirty is left to the walk.
+pub fn standing(r: Regime, a: Access, l: Leaf) -> Stance
     requires { ⌜ 0 < a .size ⌝ }
-    ensures { λ b. ⌜ b ≡ passesClean r a l ⌝ }
+    ensures { λ s. ⌜ s ≡ standingOf r a l ⌝ }
 {
     if permission::flag_fails(r, l) {
-        return false;
+        return Stance::Fault;
     }
     if permission::alignment_fails(r, a, l) {
-        return false;
+        return Stance::Fault;
     }
-    !(permission::permission_fails(r, a, l) | dirty_due(r, a, l))
+    if permission::permission_fails(r, a, l) {
+        return Stance::Fault;
+    }
+    if dirty_due(r, a, l) {
+        return Stance::Walk;
+    }
+    Stance::Success
+}
+
+// The fault of an access that one of steps 6 to 8 stops.
+pub fn fault(r: Regime, a: Access, l: Leaf, reads: u8) -> Fault
+    requires { ⌜ (0 < a .size) × (l .left ≤ 3) × (standingOf r a l ≡ Stance.Fault) ⌝ }
+    ensures { λ f. ⌜ view (Answer.Fault f) ≡ decision r a l reads .result ⌝ }
+{
+    if permission::flag_fails(r, l) {
+        return stopped(l, reads, FaultKind::AccessFlag);
+    }
+    if permission::alignment_fails(r, a, l) {
+        return stopped(l, reads, FaultKind::Alignment);
+    }
+    stopped(l, reads, FaultKind::Permission)
 }

@@ -1,24 +1,33 @@
 -- Steps 6 to 8 with the count of reads apart: what a decision says is what the session's walker says.
 use Prim.Native.Nat.{ℕ}
-use mathlib.Core.Bool.{Bool, true, false, not}
+use mathlib.Core.Bool.{Bool, true, false}
 use mathlib.Core.Option.{none, some}
 use mathlib.Core.Path.{_≡_, refl, sym}
+use native.Mathlib.Omega.{arith}
 use Rattle.descriptor.specs.Bits.{pick}
-use Rattle.descriptor.proofs.Tests.{clash}
 use Rattle.vmsa.specs.Answers.{Result, cacheableIn, dirtiedIn}
 use Rattle.vmsa.specs.declared.Regime.{Regime}
 use Rattle.vmsa.specs.declared.Access.{Access}
 use Rattle.vmsa.specs.declared.Leaf.{Leaf}
 use Rattle.vmsa.specs.declared.FaultKind.the-variants.{AccessFlag, Alignment, Permission}
 use Rattle.permission.specs.Permission.{flagFails, alignmentFails, permissionFails}
-use Rattle.decision.specs.Decision.{Decision, dirtyDue, updated, failing, passing, decision, passesClean}
+use Rattle.decision.specs.declared.Stance.{Stance}
+use Rattle.decision.specs.declared.Stance.the-variants as stance
+use Rattle.decision.specs.Decision.{Decision, dirtyDue, updated, failing, passing, decision, standing}
 use Rattle.session.specs.Replies.{answered, replyOf, updates}
 use Rattle.session.specs.Ours.{judged, stamped}
-use Rattle.session.specs.View.{isSuccess, succeeds}
+use Rattle.session.specs.View.{stanceOf, standingIn}
 
 -- a decision, by the three tests
 abbrev decided : Regime → Access → Leaf → ℕ → Bool → Bool → Bool → Decision
 decided r a l n x y z = pick x (failing l n AccessFlag) (pick y (failing l n Alignment) (pick z (failing l n Permission) (passing r a l n)))
+
+-- how a leaf stands to an access, by the three tests
+abbrev standing-by : Regime → Access → Leaf → Bool → Bool → Bool → Stance
+standing-by r a l x y z = pick x stance.Fault (pick y stance.Fault (pick z stance.Fault (pick (dirtyDue r a l) stance.Walk stance.Success)))
+
+fault-success : stance.Fault ≡ stance.Success → ⊥
+fault-success e = let z : _≡_ {A = ℕ} 0 1 = cc in omega arith
 
 module _ (r : Regime) (a : Access) (l : Leaf) (n : ℕ) where
   reply-by : (x y z : Bool) → replyOf (decided r a l n x y z .result) ≡ answered (decided r a l 0 x y z .result) n
@@ -68,33 +77,29 @@ module _ (r : Regime) (a : Access) (l : Leaf) (n : ℕ) where
   unfolding decision judged
   cache-decision = cache-by (flagFails r l) (alignmentFails r a l) (permissionFails r a l)
 
-  -- a success that dirties nothing, of steps that let the access pass
-  clean-by : (d : Bool) (o : Result) → isSuccess o ≡ true → not d ≡ succeeds (pick d none (some (answered o 0)))
+  -- how a leaf stands to the access is what it answers
+  clean-by : (d : Bool) (o : Result) → stanceOf o ≡ stance.Success → pick d stance.Walk stance.Success ≡ standingIn (pick d none (some (answered o 0)))
   clean-by true o e = refl
   clean-by false o e = sym e
 
-  pass-by : (x y z : Bool) → pick x false (pick y false (pick z false (not (dirtyDue r a l)))) ≡ succeeds (pick (dirtiedIn (decided r a l 0 x y z .result)) none (some (answered (decided r a l 0 x y z .result) 0)))
+  pass-by : (x y z : Bool) → standing-by r a l x y z ≡ standingIn (pick (dirtiedIn (decided r a l 0 x y z .result)) none (some (answered (decided r a l 0 x y z .result) 0)))
   unfolding failing passing
   pass-by true y z = refl
   pass-by false true z = refl
   pass-by false false true = refl
   pass-by false false false = clean-by (dirtyDue r a l) (passing r a l 0 .result) refl
 
-  pub clean-decision : passesClean r a l ≡ succeeds (pick (dirtiedIn (judged r l a)) none (some (answered (judged r l a) 0)))
-  unfolding decision judged passesClean
-  clean-decision = pass-by (flagFails r l) (alignmentFails r a l) (permissionFails r a l)
+  pub standing-decision : standing r a l ≡ standingIn (pick (dirtiedIn (judged r l a)) none (some (answered (judged r l a) 0)))
+  unfolding decision judged standing
+  standing-decision = pass-by (flagFails r l) (alignmentFails r a l) (permissionFails r a l)
 
-  -- what such steps answer
-  passed-by : (x y z : Bool) → pick x false (pick y false (pick z false (not (dirtyDue r a l)))) ≡ true → decided r a l 0 x y z .result ≡ passing r a l 0 .result
-  passed-by true y z e = clash (cc)
-  passed-by false true z e = clash (cc)
-  passed-by false false true e = clash (cc)
+  -- what a leaf that stands to it with a success answers
+  passed-by : (x y z : Bool) → standing-by r a l x y z ≡ stance.Success → passing r a l n .result ≡ decided r a l n x y z .result
+  passed-by true y z e = absurd (fault-success e)
+  passed-by false true z e = absurd (fault-success e)
+  passed-by false false true e = absurd (fault-success e)
   passed-by false false false e = refl
 
-  pub passed-decision : passesClean r a l ≡ true → judged r l a ≡ passing r a l 0 .result
-  unfolding decision judged passesClean
+  pub passed-decision : standing r a l ≡ stance.Success → passing r a l n .result ≡ decision r a l n .result
+  unfolding decision standing
   passed-decision e = passed-by (flagFails r l) (alignmentFails r a l) (permissionFails r a l) e
-
-  pub passed-reply : judged r l a ≡ passing r a l 0 .result → replyOf (passing r a l 0 .result) ≡ answered (judged r l a) 0
-  unfolding passing
-  passed-reply e = rw e

@@ -16,12 +16,12 @@ use Rattle.vmsa.specs.declared.Access.{Access}
 use Rattle.vmsa.specs.declared.Leaf.{Leaf}
 use Rattle.session.specs.declared.Entry.{Entry as EntryStruct}
 use Rattle.session.specs.declared.Session.{Session as SessionStruct}
-use Rattle.decision.specs.Decision.{passing}
+use Rattle.decision.specs.Decision.{decision, standing}
 use Rattle.session.specs.Replies.{Reply, answered, replyOf}
 use Rattle.session.specs.Model.{Entry, Session, empty, holds, heldIn, held, keep, entryOf, learn, accessHeld, walked}
 use Rattle.session.specs.Ours.{judged, ours}
-use Rattle.session.specs.View.{entryView, noEntry, sessionView, stepped, answerOf, entryAnswer, entryFor, withEntry, keptIn, succeeds}
-use Rattle.session.proofs.Deciding.{clean-decision, passed-decision, passed-reply}
+use Rattle.session.specs.View.{entryView, noEntry, sessionView, stepped, answerOf, entryAnswer, entryFor, withEntry, keptIn, standingIn, answers}
+use Rattle.session.proofs.Deciding.{reply-decision, standing-decision}
 
 -- ---- what an entry holds of a page
 
@@ -144,21 +144,22 @@ module _ (s : SessionStruct) (a : Access) (e : EntryStruct) (q : getD (s .entrie
       → accessHeld ours (sessionView s) m r a (held (sessionView s .entries) (ours .page r a)) ≡ learn ours (sessionView s) (ours .page r a) (walked ours r m a)
   walk-leaves m r h = walk-outcome s m r a (h ∙ ap (λ (x : EntryStruct). entryAnswer ours r a (entryView x)) (sym q))
 
--- ---- an entry that answers with a success
+-- ---- an entry that answers
 
 module _ (r : Regime) (a : Access) (e : EntryStruct) where
-  hit-leaf : (h : Leaf) → succeeds (pick (dirtiedIn (judged r h a)) none (some (answered (judged r h a) 0))) ≡ true
-      → some (replyOf (passing r a h 0 .result)) ≡ pick (dirtiedIn (judged r h a)) none (some (answered (judged r h a) 0))
-  hit-leaf h t = by (dirtiedIn (judged r h a)) refl t
+  hit-leaf : (h : Leaf) → answers (standingIn (pick (dirtiedIn (judged r h a)) none (some (answered (judged r h a) 0)))) ≡ true
+      → some (replyOf (decision r a h 0 .result)) ≡ pick (dirtiedIn (judged r h a)) none (some (answered (judged r h a) 0))
+  hit-leaf h t = by (dirtiedIn (judged r h a)) t
     where
-      by : (b : Bool) → dirtiedIn (judged r h a) ≡ b → succeeds (pick b none (some (answered (judged r h a) 0))) ≡ true → some (replyOf (passing r a h 0 .result)) ≡ pick b none (some (answered (judged r h a) 0))
-      by true q t = clash (cc)
-      by false q t =
-          ap (λ (o : Reply). some o) (passed-reply r a h 0 (passed-decision r a h 0 (clean-decision r a h 0 ∙ rw q t)))
+      by : (b : Bool) → answers (standingIn (pick b none (some (answered (judged r h a) 0)))) ≡ true → some (replyOf (decision r a h 0 .result)) ≡ pick b none (some (answered (judged r h a) 0))
+      by true t = clash (cc)
+      by false t = ap (λ (o : Reply). some o) (reply-decision r a h 0)
 
-  hit-held : (x : Option Leaf) → (h : Leaf) → ((l : Leaf) → x ≡ some l → l ≡ h) → succeeds (answerOf ours r a x) ≡ true → some (replyOf (passing r a h 0 .result)) ≡ answerOf ours r a x
+  hit-held : (x : Option Leaf) → (h : Leaf) → ((l : Leaf) → x ≡ some l → l ≡ h) → answers (standingIn (answerOf ours r a x)) ≡ true
+      → (some (replyOf (decision r a h 0 .result)) ≡ answerOf ours r a x) × (standing r a h ≡ standingIn (answerOf ours r a x))
   hit-held none h q t = clash (cc)
-  hit-held (some l) h q t = subst (λ (y : Leaf). some (replyOf (passing r a y 0 .result)) ≡ answerOf ours r a (some l)) (q l refl) (hit-leaf l t)
+  hit-held (some l) h q t =
+      subst (λ (y : Leaf). (some (replyOf (decision r a y 0 .result)) ≡ answerOf ours r a (some l)) × (standing r a y ≡ standingIn (answerOf ours r a (some l)))) (q l refl) (hit-leaf l t, standing-decision r a l 0)
 
   -- the leaf that an entry holds is its own, and stands at a level
   own-leaf : (l : Leaf) → heldIn (entryView e) (ours .page r a) ≡ some l → l ≡ leafIn e
@@ -172,12 +173,14 @@ module _ (r : Regime) (a : Access) (e : EntryStruct) where
       by true q = same (eqb (e .page) (ours .page r a)) q
       by false q = clash (cc)
 
-  hit-low-by : (x : Option Leaf) → heldIn (entryView e) (ours .page r a) ≡ x → succeeds (answerOf ours r a x) ≡ true → e .left ≤ 3
+  hit-low-by : (x : Option Leaf) → heldIn (entryView e) (ours .page r a) ≡ x → answers (standingIn (answerOf ours r a x)) ≡ true → e .left ≤ 3
   hit-low-by none q t = clash (cc)
   hit-low-by (some l) q t = subst (λ (y : Leaf). y .left ≤ 3) (own-leaf l q) (held-low e (ours .page r a) l q)
 
-  pub hit-low : succeeds (entryAnswer ours r a (entryView e)) ≡ true → e .left ≤ 3
+  pub hit-low : answers (standingIn (entryAnswer ours r a (entryView e))) ≡ true → e .left ≤ 3
   hit-low t = hit-low-by (heldIn (entryView e) (ours .page r a)) refl t
 
-  pub hit-success : succeeds (entryAnswer ours r a (entryView e)) ≡ true → some (replyOf (passing r a (leafIn e) 0 .result)) ≡ entryAnswer ours r a (entryView e)
-  hit-success t = hit-held (heldIn (entryView e) (ours .page r a)) (leafIn e) own-leaf t
+  -- its answer is that of steps 6 to 8 on its leaf, which stands to the access as the entry does
+  pub hit-answer : answers (standingIn (entryAnswer ours r a (entryView e))) ≡ true
+      → (some (replyOf (decision r a (leafIn e) 0 .result)) ≡ entryAnswer ours r a (entryView e)) × (standing r a (leafIn e) ≡ standingIn (entryAnswer ours r a (entryView e)))
+  hit-answer t = hit-held (heldIn (entryView e) (ours .page r a)) (leafIn e) own-leaf t

@@ -18,6 +18,8 @@ use Rattle.vmsa.specs.declared.Leaf.{Leaf}
 use Rattle.checks.specs.declared.Checked.{Checked}
 use Rattle.checks.specs.declared.Checked.the-variants.{Accepted, Refused}
 use Rattle.checks.specs.Order.{sessionAccessCheck}
+use Rattle.decision.specs.declared.Stance.{Stance}
+use Rattle.decision.specs.declared.Stance.the-variants as stance
 use Rattle.walk.specs.declared.Walked.{Walked as WalkedStruct}
 use Rattle.walk.specs.declared.Kept.{Kept}
 use Rattle.walk.specs.declared.Kept.the-variants as kept
@@ -124,14 +126,19 @@ abbrev pub entryReply : ℕ → Access → Entry → Option Regime → Option Re
 entryReply n a e none = none
 entryReply n a e (some r) = checkedReply (sessionAccessCheck n (r .pool) a) (entryAnswer ours r a e)
 
--- whether a reply is a success
-abbrev pub isSuccess : Result → Bool
-isSuccess (success s) = true
-isSuccess (fault f) = false
-isSuccess (refusedWith n) = false
+-- how an entry stands to an access, from what it answers: a success, a fault, or nothing
+abbrev pub stanceOf : Result → Stance
+stanceOf (success s) = stance.Success
+stanceOf (fault f) = stance.Fault
+stanceOf (refusedWith n) = stance.Fault
 
-abbrev pub succeeds : Option Reply → Bool
-succeeds none = false
-succeeds (some done) = false
-succeeds (some (refused n)) = false
-succeeds (some (answered o n)) = isSuccess o
+abbrev pub standingIn : Option Reply → Stance
+standingIn none = stance.Walk
+standingIn (some done) = stance.Fault
+standingIn (some (refused n)) = stance.Fault
+standingIn (some (answered o n)) = stanceOf o
+
+abbrev pub answers : Stance → Bool
+answers stance.Success = true
+answers stance.Fault = true
+answers stance.Walk = false

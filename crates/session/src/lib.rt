@@ -10,8 +10,9 @@ ghost use Rattle.walk.specs.Walk.{keptLeaf};
 ghost use Rattle.session.specs.Replies.{done, replyOf, replyTo};
 ghost use Rattle.session.specs.Model.{fresh, entryCount, heldIn, walked as walkedOf, setCall, accessCall, storeCall, dropCall};
 ghost use Rattle.session.specs.Ours.{usable as usableOf, ours};
-ghost use Rattle.session.specs.View.{noEntry, entryView, regimeIn, sessionView, stepped, heldLeaf, entryAnswer, askedReply, Low, walkedView, entryFor, keptIn, Answers, Fills, Stores, entryReply, succeeds};
+ghost use Rattle.session.specs.View.{noEntry, entryView, regimeIn, sessionView, stepped, heldLeaf, entryAnswer, askedReply, Low, walkedView, entryFor, keptIn, Answers, Fills, Stores, entryReply, standingIn};
 use checks::Checked;
+use decision::Stance;
 use vmsa::Access;
 use vmsa::Answer;
 use vmsa::Fault;
@@ -120,21 +121,33 @@ impl Entry {
         Asked::Answered(answer)
     }
 
-    // Whether it answers an access with a success.
-    pub fn hits(self, r: Regime, a: Access) -> bool
+    // How it stands to an access: one of another page, or one that makes the page dirty, is left to the walk.
+    pub fn standing(self, r: Regime, a: Access) -> Stance
         requires { ⌜ 0 < a .size ⌝ }
-        ensures { λ b. ⌜ b ≡ succeeds (entryAnswer ours r a (entryView self)) ⌝ }
+        ensures { λ s. ⌜ s ≡ standingIn (entryAnswer ours r a (entryView self)) ⌝ }
     {
         let page = geometry::page_of(vmsa::PAGE_BITS, a.address);
         let Held::Leaf(leaf) = self.held_of(page) else {
-            return false;
+            return Stance::Walk;
         };
-        decision::passes_clean(r, a, leaf)
+        decision::standing(r, a, leaf)
+    }
+
+    // The fault that it answers with, where it does.
+    pub fn fault(self, r: Regime, a: Access) -> Fault
+        requires { ⌜ (0 < a .size) × (standingIn (entryAnswer ours r a (entryView self)) ≡ Stance.Fault) ⌝ }
+        ensures { λ f. ⌜ some (replyOf (view (Answer.Fault f))) ≡ entryAnswer ours r a (entryView self) ⌝ }
+    {
+        let leaf = Leaf {
+            value: self.value,
+            left: self.left,
+        };
+        decision::fault(r, a, leaf, 0)
     }
 
     // The success that it answers with, where it does.
     pub fn success(self, r: Regime, a: Access) -> Success
-        requires { ⌜ succeeds (entryAnswer ours r a (entryView self)) ≡ true ⌝ }
+        requires { ⌜ standingIn (entryAnswer ours r a (entryView self)) ≡ Stance.Success ⌝ }
         ensures { λ s. ⌜ some (replyOf (view (Answer.Success s))) ≡ entryAnswer ours r a (entryView self) ⌝ }
     {
         let leaf = Leaf {
@@ -245,17 +258,17 @@ pub fn access_entry(
     }
 }
 
-// Whether an access in such a session, over n bytes of memory, is answered by the entry with a success.
-pub fn hits(regime: RegimeWords, set: u8, entry: Entry, n: usize, a: Access) -> bool
-    ensures { λ b. ⌜ b ≡ succeeds (entryReply n a (entryView entry) (regimeIn regime set)) ⌝ }
+// How the entry stands to an access in such a session, over n bytes of memory; it answers none that is refused.
+pub fn standing(regime: RegimeWords, set: u8, entry: Entry, n: usize, a: Access) -> Stance
+    ensures { λ s. ⌜ s ≡ standingIn (entryReply n a (entryView entry) (regimeIn regime set)) ⌝ }
 {
     if set == 0 {
-        return false;
+        return Stance::Walk;
     }
     let r = regime.regime();
     match checks::check_session_access(n, r.pool, a) {
-        Checked::Refused(_) => false,
-        Checked::Accepted => entry.hits(r, a),
+        Checked::Refused(_) => Stance::Walk,
+        Checked::Accepted => entry.standing(r, a),
     }
 }
 

@@ -19,11 +19,12 @@ use Rattle.vmsa.proofs.Words.{regime-words}
 use Rattle.checks.specs.declared.Checked.{Checked}
 use Rattle.checks.specs.declared.Checked.the-variants.{Accepted, Refused}
 use Rattle.checks.specs.Order.{regimeCheck}
+use Rattle.decision.specs.declared.Stance.the-variants as stance
 use Rattle.session.specs.declared.Session.{Session as SessionStruct}
-use Rattle.session.specs.Replies.{Reply, replyOf, replyTo}
+use Rattle.session.specs.Replies.{Reply, done, refused as refusedWith, answered, replyOf, replyTo}
 use Rattle.session.specs.Model.{setBy, accessCall, setCall}
 use Rattle.session.specs.Ours.{ours}
-use Rattle.session.specs.View.{noEntry, entryView, regimeIn, sessionView, setTo, entryFor, entryReply, succeeds}
+use Rattle.session.specs.View.{noEntry, entryView, regimeIn, sessionView, setTo, entryFor, entryReply, standingIn, answers}
 use Rattle.session.proofs.Calls.{set-checked, reply-is-call}
 use Rattle.words.specs.declared.AnswerWords.{AnswerWords}
 use Rattle.words.specs.declared.Hit.{Hit}
@@ -65,21 +66,29 @@ set-is-call n g x e s m long =
 
 -- ---- a hit
 
-module _ (x : Option Reply) where
-  pub no-hit : (w : AnswerWords) → w ≡ wordsOf (refused 0) → succeeds x ≡ false → record { hit = false; answer = w } ≡ hitOf x
-  unfolding hitOf
-  no-hit w e q = rw (e, q)
+-- a reply is an answer
+told : (reply : Reply) → answers (standingIn (some reply)) ≡ true
+told done = refl
+told (refusedWith n) = refl
+told (answered (success s) n) = refl
+told (answered (fault f) n) = refl
+told (answered (refused k) n) = refl
 
-  pub hit : (o : Result) (w : AnswerWords) → w ≡ wordsOf o → some (replyOf o) ≡ x → succeeds x ≡ true → record { hit = true; answer = w } ≡ hitOf x
-  unfolding hitOf
-  hit o w e h q = rw (q, ← h, reply-words o, e)
+pub no-hit : (x : Option Reply) (w : AnswerWords) → w ≡ wordsOf (refused 0) → stance.Walk ≡ standingIn x → record { hit = false; answer = w } ≡ hitOf x
+unfolding hitOf
+no-hit none w e q = rw e
+no-hit (some reply) w e q = let t = sym (told reply) ∙ ap answers (sym q) in clash (cc)
+
+pub hit : (x : Option Reply) (o : Result) (w : AnswerWords) → w ≡ wordsOf o → some (replyOf o) ≡ x → record { hit = true; answer = w } ≡ hitOf x
+unfolding hitOf
+hit x o w e h = rw (← h, reply-words o, e)
 
 -- a hit is the access call of whatever session has the entry and the regime
 hit-call : (s : SessionStruct) (m : List ℕ) (a : Access) (x : Option Reply) → x ≡ entryReply (length m) a (entryView (getD (s .entries) (entryFor a) noEntry)) (regimeIn (s .regime) (s .set)) → hitOf x .hit ≡ true
     → accessed s m (hitOf x .answer) ≡ accessedBy (accessCall ours (sessionView s) m a)
 unfolding hitOf
 hit-call s m a none e h = clash (cc)
-hit-call s m a (some reply) e h = rw h (ap accessedBy (reply-is-call s m a reply e))
+hit-call s m a (some reply) e h = ap accessedBy (reply-is-call s m a reply e)
 
 pub hit-is-call : (s : SessionStruct) (m : List ℕ) (a : Access) (h : Hit) → h ≡ hitOf (entryReply (length m) a (entryView (getD (s .entries) (entryFor a) noEntry)) (regimeIn (s .regime) (s .set))) → h .hit ≡ true
     → accessed s m (h .answer) ≡ accessedBy (accessCall ours (sessionView s) m a)

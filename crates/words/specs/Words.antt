@@ -1,5 +1,6 @@
 -- An access and an answer as structs of numbers, and the calls of a monitor in them.
 use Prim.Native.Nat.{ℕ}
+use mathlib.Core.Bool.{true, false}
 use mathlib.Core.List.{List}
 use mathlib.Core.Option.{Option, none, some}
 use mathlib.Core.Path.{_≡_}
@@ -20,7 +21,7 @@ use Rattle.session.specs.Replies.{Reply, done, refused as refusedWith, answered
 use Rattle.session.specs.declared.Entry.{Entry as EntryStruct}
 use Rattle.session.specs.Model.{Session, Stepped, accessCall, storeCall}
 use Rattle.session.specs.Ours.{ours}
-use Rattle.session.specs.View.{noEntry, sessionView, entryFor, withEntry, succeeds}
+use Rattle.session.specs.View.{noEntry, sessionView, entryFor, withEntry}
 use Rattle.words.specs.declared.AccessWords.{AccessWords}
 use Rattle.words.specs.declared.AnswerWords.{AnswerWords}
 use Rattle.words.specs.declared.Hit.{Hit}
@@ -157,10 +158,7 @@ abbrev pub FillsWords : RegimeWords → ℕ → EntryStruct → Access → List 
 FillsWords regime set e a m e′ m′ answer =
     (s : SessionStruct) → s .regime ≡ regime → s .set ≡ set → getD (s .entries) (entryFor a) noEntry ≡ e → accessed (withEntry s (entryFor a) e′) m′ answer ≡ accessedBy (accessCall ours (sessionView s) m a)
 
--- an entry's reply that is a success, as numbers; elsewhere there is no hit
-abbrev pub hitWords : Option Reply → AnswerWords
-hitWords none = wordsOf (refused 0)
-hitWords (some reply) = replyWords reply
-
+-- an entry's reply as numbers; where there is none, there is no hit
 unfoldable pub hitOf : Option Reply → Hit
-hitOf x = record { hit = succeeds x; answer = pick (succeeds x) (hitWords x) (wordsOf (refused 0)) }
+hitOf none = record { hit = false; answer = wordsOf (refused 0) }
+hitOf (some reply) = record { hit = true; answer = replyWords reply }

@@ -8,6 +8,7 @@ ghost use Rattle.session.specs.Model.{entryCount};
 ghost use Rattle.session.specs.View.{entryView, regimeIn, entryFor, entryReply};
 ghost use Rattle.words.specs.Words.{kindOf, accessOf, wordsOf, told, walkTold, refusalByte, setWords, hitOf, FillsWords, StoresWords};
 use checks::Checked;
+use decision::Stance;
 use session::Entry;
 use vmsa::Access;
 use vmsa::AccessKind;
@@ -225,16 +226,20 @@ pub fn hit_entry(regime: RegimeWords, set: u8, entry: Entry, n: usize, access: A
     ensures { λ h. ⌜ h ≡ hitOf (entryReply n (accessOf access) (entryView entry) (regimeIn regime set)) ⌝ }
 {
     let a = access_of(access);
-    if session::hits(regime, set, entry, n, a) {
-        let r = regime.regime();
-        return Hit {
+    let r = regime.regime();
+    match session::standing(regime, set, entry, n, a) {
+        Stance::Success => Hit {
             hit: true,
             answer: success_words(entry.success(r, a)),
-        };
-    }
-    Hit {
-        hit: false,
-        answer: no_answer(),
+        },
+        Stance::Fault => Hit {
+            hit: true,
+            answer: fault_words(entry.fault(r, a)),
+        },
+        Stance::Walk => Hit {
+            hit: false,
+            answer: no_answer(),
+        },
     }
 }
 

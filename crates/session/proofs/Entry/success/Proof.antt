@@ -2,17 +2,20 @@ use mathlib.Core.Path.{ap, _∙_}
 use mathlib.Core.Option.{some}
 use Rattle.vmsa.specs.Answers.{Result}
 use Rattle.session.specs.Replies.{replyOf}
-use Rattle.session.proofs.Entries.{hit-low, hit-success}
+use Rattle.session.specs.View.{answers}
+use Rattle.session.proofs.Deciding.{passed-decision}
+use Rattle.session.proofs.Entries.{leafIn, hit-low, hit-answer}
 use Rattle.session.proofs.Entry.success.Statement.{statement}
 use Rattle.session.proofs.Entry.success.Tie as tie
 
 success-requires : tie.Need-success-requires
-success-requires c κs = hit-low (c .args .r) (c .args .a) (c .args .self) (c .pre)
+success-requires c κs = hit-low (c .args .r) (c .args .a) (c .args .self) (ap answers (c .pre))
 
 returns : tie.Need-returns
 returns c =
     let s = c .before in
-    ap (λ (o : Result). some (replyOf o)) (c .success .ensures) ∙ hit-success (s .args .r) (s .args .a) (s .args .self) (s .pre)
+    let h = hit-answer (s .args .r) (s .args .a) (s .args .self) (ap answers (s .pre)) in
+    ap (λ (o : Result). some (replyOf o)) (c .success .ensures ∙ passed-decision (s .args .r) (s .args .a) (leafIn (s .args .self)) 0 (h .1 ∙ s .pre)) ∙ h .0
 
 pub success-spec : {M : Type 1} → statement M
 success-spec = tie.close (tie.spec success-requires returns)

@@ -1,0 +1,11 @@
+use borrow.Author.Needs.{needs}
+use Rattle.decision.specs.Decision.{failing}
+use Rattle.decision.proofs.stopped.Statement.{statement}
+use Rattle.decision.proofs.stopped.Tie as tie
+
+returns : tie.Need-returns
+unfolding failing
+returns c = rw (c .bit .ensures, c .before .level .ensures)
+
+pub stopped-spec : {M : Type 1} → statement M
+stopped-spec = tie.close (tie.spec (λ c κs. search needs) (λ c κs. search needs) returns)
