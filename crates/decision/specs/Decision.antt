@@ -14,8 +14,8 @@ use Rattle.vmsa.specs.declared.Leaf.{Leaf}
 use Rattle.vmsa.specs.declared.FaultKind.{FaultKind}
 use Rattle.vmsa.specs.declared.FaultKind.the-variants.{AccessFlag, Permission, Alignment}
 use Rattle.permission.specs.Permission.{attributeOf, clean, flagFails, alignmentFails, permissionFails}
-use Rattle.decision.specs.declared.Stance.{Stance}
-use Rattle.decision.specs.declared.Stance.the-variants as stands
+use Rattle.decision.specs.declared.HitKind.{HitKind}
+use Rattle.decision.specs.declared.HitKind.the-variants as hits
 use Rattle.decision.specs.declared.Verdict.{Verdict}
 
 -- steps 6 to 8, in their order: each with the fault that it gives (01, "The walk")
@@ -81,9 +81,9 @@ passing r a l reads = record {
 unfoldable pub decision : Regime → Access → Leaf → ℕ → Decision
 decision r a l reads = firstFailing (leafSteps r a l) (failing l reads) (passing r a l reads)
 
--- how a held leaf stands to an access: it answers with a fault, leaves it to the walk where it would become dirty, or answers with a success
-unfoldable pub standing : Regime → Access → Leaf → Stance
-standing r a l = firstFailing (leafSteps r a l) (λ (kind : FaultKind). stands.Fault) (pick (dirtyDue r a l) stands.Walk stands.Success)
+-- how a held leaf answers an access: with a fault, with a success, or not at all where it would become dirty: that walks again (01, "The session")
+unfoldable pub hitKind : Regime → Access → Leaf → HitKind
+hitKind r a l = firstFailing (leafSteps r a l) (λ (kind : FaultKind). hits.Fault) (pick (dirtyDue r a l) hits.Miss hits.Success)
 
 -- a verdict of the code, in these values
 abbrev pub seen : Verdict → Decision

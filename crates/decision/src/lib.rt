@@ -2,7 +2,7 @@
 ghost use mathlib.Core.Path.{_≡_};
 ghost use Prim.Native.Nat.{_≤_, _<_};
 ghost use Rattle.vmsa.specs.Answers.{view};
-ghost use Rattle.decision.specs.Decision.{flagDue, dirtyDue, updated as updatedTo, outputOf, failing as failingAt, passing as passingAt, decision, standing as standingOf, seen};
+ghost use Rattle.decision.specs.Decision.{flagDue, dirtyDue, updated as updatedTo, outputOf, failing as failingAt, passing as passingAt, decision, hitKind, seen};
 use vmsa::Access;
 use vmsa::Answer;
 use vmsa::Fault;
@@ -12,11 +12,11 @@ use vmsa::PhysAddr;
 use vmsa::Regime;
 use vmsa::Success;
 
-// How a held leaf stands to an access: it answers with a success, with a fault, or leaves it to the walk.
-pub enum Stance {
+// How a held leaf answers an access: with a success, with a fault, or not at all, so that the access walks.
+pub enum HitKind {
     Success,
     Fault,
-    Walk,
+    Miss,
 }
 
 // What a leaf gives an access: the answer, whether the leaf changes, and its value then.
@@ -61,7 +61,7 @@ fn output_of(a: Access, l: Leaf) -> u64
     geometry::cut(l.value, span) + a.address.0 % span
 }
 
-fn stopped(l: Leaf, reads: u8, kind: FaultKind) -> Fault
+fn fault_of(l: Leaf, reads: u8, kind: FaultKind) -> Fault
     requires { ⌜ l .left ≤ 3 ⌝ }
     ensures { λ f. ⌜ view (Answer.Fault f) ≡ failingAt l reads kind .result ⌝ }
 {
@@ -77,7 +77,7 @@ fn failing(l: Leaf, reads: u8, kind: FaultKind) -> Verdict
     requires { ⌜ l .left ≤ 3 ⌝ }
     ensures { λ v. ⌜ seen v ≡ failingAt l reads kind ⌝ }
 {
-    let fault = stopped(l, reads, kind);
+    let fault = fault_of(l, reads, kind);
     Verdict {
         answer: Answer::Fault(fault),
         update: false,
@@ -135,36 +135,36 @@ pub fn judge(r: Regime, a: Access, l: Leaf, reads: u8) -> Verdict
     passing(r, a, l, reads)
 }
 
-// How a held leaf stands to an access: one that makes it dirty is left to the walk.
-pub fn standing(r: Regime, a: Access, l: Leaf) -> Stance
+// How a held leaf answers an access; one that would make it dirty misses.
+pub fn hit_kind(r: Regime, a: Access, l: Leaf) -> HitKind
     requires { ⌜ 0 < a .size ⌝ }
-    ensures { λ s. ⌜ s ≡ standingOf r a l ⌝ }
+    ensures { λ s. ⌜ s ≡ hitKind r a l ⌝ }
 {
     if permission::flag_fails(r, l) {
-        return Stance::Fault;
+        return HitKind::Fault;
     }
     if permission::alignment_fails(r, a, l) {
-        return Stance::Fault;
+        return HitKind::Fault;
     }
     if permission::permission_fails(r, a, l) {
-        return Stance::Fault;
+        return HitKind::Fault;
     }
     if dirty_due(r, a, l) {
-        return Stance::Walk;
+        return HitKind::Miss;
     }
-    Stance::Success
+    HitKind::Success
 }
 
 // The fault of an access that one of steps 6 to 8 stops.
 pub fn fault(r: Regime, a: Access, l: Leaf, reads: u8) -> Fault
-    requires { ⌜ (0 < a .size) × (l .left ≤ 3) × (standingOf r a l ≡ Stance.Fault) ⌝ }
+    requires { ⌜ (0 < a .size) × (l .left ≤ 3) × (hitKind r a l ≡ HitKind.Fault) ⌝ }
     ensures { λ f. ⌜ view (Answer.Fault f) ≡ decision r a l reads .result ⌝ }
 {
     if permission::flag_fails(r, l) {
-        return stopped(l, reads, FaultKind::AccessFlag);
+        return fault_of(l, reads, FaultKind::AccessFlag);
     }
     if permission::alignment_fails(r, a, l) {
-        return stopped(l, reads, FaultKind::Alignment);
+        return fault_of(l, reads, FaultKind::Alignment);
     }
-    stopped(l, reads, FaultKind::Permission)
+    fault_of(l, reads, FaultKind::Permission)
 }

@@ -39,7 +39,7 @@ use Rattle.session.specs.Replies.{Reply, done, refused, replyOf}
 use Rattle.vmsa.specs.declared.FaultKind.the-variants.{Translation}
 use Rattle.session.specs.Model.{Walked, lost, walkFrom, Session, Entry, andThen, walked, held, keep, learn, noRegime, setBy, setCall, accessHeld, accessBy, accessIn, accessCall, storeBy, storeIn, storeCall, put}
 use Rattle.session.specs.Ours.{usable, offsetOf, located, ours}
-use Rattle.session.specs.View.{noEntry, entryView, regimeIn, sessionView, stepped, walkedView, entryAnswer, Low, entryFor, withEntry, Answers, Fills, Stores, checkedReply, entryReply, standingIn, answers}
+use Rattle.session.specs.View.{noEntry, entryView, regimeIn, sessionView, stepped, walkedView, entryAnswer, Low, entryFor, withEntry, Answers, Fills, Stores, checkedReply, entryReply, hitKindIn, isHit}
 use Rattle.session.proofs.Entries.{with-same, hit-outcome}
 use Rattle.session.proofs.Walking.{first-append, usable-sized, usable-root, put-is, walked-pool}
 
@@ -234,25 +234,25 @@ module _ (s : SessionStruct) (m : List ℕ) (a : Access) where
   reply-is-call reply h = reply-by (regimeIn (s .regime) (s .set)) refl reply h
 
 -- where there is one, the entry's reply is the entry's answer
-pub hit-reply : (n : ℕ) (a : Access) (e : Entry) (regime : RegimeWords) (set : ℕ) → answers (standingIn (entryReply n a e (regimeIn regime set))) ≡ true → entryReply n a e (regimeIn regime set) ≡ entryAnswer ours (regimeOf regime) a e
+pub hit-reply : (n : ℕ) (a : Access) (e : Entry) (regime : RegimeWords) (set : ℕ) → isHit (hitKindIn (entryReply n a e (regimeIn regime set))) ≡ true → entryReply n a e (regimeIn regime set) ≡ entryAnswer ours (regimeOf regime) a e
 hit-reply n a e regime set t = by (flag set) t
   where
-    accepted : (x : Checked) → answers (standingIn (checkedReply x (entryAnswer ours (regimeOf regime) a e))) ≡ true → checkedReply x (entryAnswer ours (regimeOf regime) a e) ≡ entryAnswer ours (regimeOf regime) a e
+    accepted : (x : Checked) → isHit (hitKindIn (checkedReply x (entryAnswer ours (regimeOf regime) a e))) ≡ true → checkedReply x (entryAnswer ours (regimeOf regime) a e) ≡ entryAnswer ours (regimeOf regime) a e
     accepted Accepted t = refl
     accepted (Refused x) t = clash (cc)
 
-    by : (b : Bool) → answers (standingIn (entryReply n a e (pick b (some (regimeOf regime)) none))) ≡ true → entryReply n a e (pick b (some (regimeOf regime)) none) ≡ entryAnswer ours (regimeOf regime) a e
+    by : (b : Bool) → isHit (hitKindIn (entryReply n a e (pick b (some (regimeOf regime)) none))) ≡ true → entryReply n a e (pick b (some (regimeOf regime)) none) ≡ entryAnswer ours (regimeOf regime) a e
     by true t = accepted (sessionAccessCheck n (regimeOf regime .pool) a) t
     by false t = clash (cc)
 
 -- and the call is accepted, so its size is positive
-pub hit-size : (n : ℕ) (a : Access) (e : Entry) (regime : RegimeWords) (set : ℕ) → answers (standingIn (entryReply n a e (regimeIn regime set))) ≡ true → 0 < a .size
+pub hit-size : (n : ℕ) (a : Access) (e : Entry) (regime : RegimeWords) (set : ℕ) → isHit (hitKindIn (entryReply n a e (regimeIn regime set))) ≡ true → 0 < a .size
 hit-size n a e regime set t = by (flag set) t
   where
-    accepted : (x : Checked) → sessionAccessCheck n (regimeOf regime .pool) a ≡ x → answers (standingIn (checkedReply x (entryAnswer ours (regimeOf regime) a e))) ≡ true → 0 < a .size
+    accepted : (x : Checked) → sessionAccessCheck n (regimeOf regime .pool) a ≡ x → isHit (hitKindIn (checkedReply x (entryAnswer ours (regimeOf regime) a e))) ≡ true → 0 < a .size
     accepted Accepted h t = access-accepted n (regimeOf regime .pool) a h .1
     accepted (Refused x) h t = clash (cc)
 
-    by : (b : Bool) → answers (standingIn (entryReply n a e (pick b (some (regimeOf regime)) none))) ≡ true → 0 < a .size
+    by : (b : Bool) → isHit (hitKindIn (entryReply n a e (pick b (some (regimeOf regime)) none))) ≡ true → 0 < a .size
     by true t = accepted (sessionAccessCheck n (regimeOf regime .pool) a) refl t
     by false t = clash (cc)

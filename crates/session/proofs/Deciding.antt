@@ -11,22 +11,22 @@ use Rattle.vmsa.specs.declared.Access.{Access}
 use Rattle.vmsa.specs.declared.Leaf.{Leaf}
 use Rattle.vmsa.specs.declared.FaultKind.the-variants.{AccessFlag, Alignment, Permission}
 use Rattle.permission.specs.Permission.{flagFails, alignmentFails, permissionFails}
-use Rattle.decision.specs.declared.Stance.{Stance}
-use Rattle.decision.specs.declared.Stance.the-variants as stance
-use Rattle.decision.specs.Decision.{Decision, dirtyDue, updated, failing, passing, decision, standing}
+use Rattle.decision.specs.declared.HitKind.{HitKind}
+use Rattle.decision.specs.declared.HitKind.the-variants as hits
+use Rattle.decision.specs.Decision.{Decision, dirtyDue, updated, failing, passing, decision, hitKind}
 use Rattle.session.specs.Replies.{answered, replyOf, updates}
 use Rattle.session.specs.Ours.{judged, stamped}
-use Rattle.session.specs.View.{stanceOf, standingIn}
+use Rattle.session.specs.View.{hitKindOf, hitKindIn}
 
 -- a decision, by the three tests
 abbrev decided : Regime → Access → Leaf → ℕ → Bool → Bool → Bool → Decision
 decided r a l n x y z = pick x (failing l n AccessFlag) (pick y (failing l n Alignment) (pick z (failing l n Permission) (passing r a l n)))
 
--- how a leaf stands to an access, by the three tests
-abbrev standing-by : Regime → Access → Leaf → Bool → Bool → Bool → Stance
-standing-by r a l x y z = pick x stance.Fault (pick y stance.Fault (pick z stance.Fault (pick (dirtyDue r a l) stance.Walk stance.Success)))
+-- the kind of a hit, by the three tests
+abbrev kind-by : Regime → Access → Leaf → Bool → Bool → Bool → HitKind
+kind-by r a l x y z = pick x hits.Fault (pick y hits.Fault (pick z hits.Fault (pick (dirtyDue r a l) hits.Miss hits.Success)))
 
-fault-success : stance.Fault ≡ stance.Success → ⊥
+fault-success : hits.Fault ≡ hits.Success → ⊥
 fault-success e = let z : _≡_ {A = ℕ} 0 1 = cc in omega arith
 
 module _ (r : Regime) (a : Access) (l : Leaf) (n : ℕ) where
@@ -77,29 +77,29 @@ module _ (r : Regime) (a : Access) (l : Leaf) (n : ℕ) where
   unfolding decision judged
   cache-decision = cache-by (flagFails r l) (alignmentFails r a l) (permissionFails r a l)
 
-  -- how a leaf stands to the access is what it answers
-  clean-by : (d : Bool) (o : Result) → stanceOf o ≡ stance.Success → pick d stance.Walk stance.Success ≡ standingIn (pick d none (some (answered o 0)))
+  -- the kind of the hit is what the leaf answers
+  clean-by : (d : Bool) (o : Result) → hitKindOf o ≡ hits.Success → pick d hits.Miss hits.Success ≡ hitKindIn (pick d none (some (answered o 0)))
   clean-by true o e = refl
   clean-by false o e = sym e
 
-  pass-by : (x y z : Bool) → standing-by r a l x y z ≡ standingIn (pick (dirtiedIn (decided r a l 0 x y z .result)) none (some (answered (decided r a l 0 x y z .result) 0)))
+  pass-by : (x y z : Bool) → kind-by r a l x y z ≡ hitKindIn (pick (dirtiedIn (decided r a l 0 x y z .result)) none (some (answered (decided r a l 0 x y z .result) 0)))
   unfolding failing passing
   pass-by true y z = refl
   pass-by false true z = refl
   pass-by false false true = refl
   pass-by false false false = clean-by (dirtyDue r a l) (passing r a l 0 .result) refl
 
-  pub standing-decision : standing r a l ≡ standingIn (pick (dirtiedIn (judged r l a)) none (some (answered (judged r l a) 0)))
-  unfolding decision judged standing
-  standing-decision = pass-by (flagFails r l) (alignmentFails r a l) (permissionFails r a l)
+  pub kind-decision : hitKind r a l ≡ hitKindIn (pick (dirtiedIn (judged r l a)) none (some (answered (judged r l a) 0)))
+  unfolding decision judged hitKind
+  kind-decision = pass-by (flagFails r l) (alignmentFails r a l) (permissionFails r a l)
 
-  -- what a leaf that stands to it with a success answers
-  passed-by : (x y z : Bool) → standing-by r a l x y z ≡ stance.Success → passing r a l n .result ≡ decided r a l n x y z .result
+  -- what a hit that is a success answers
+  passed-by : (x y z : Bool) → kind-by r a l x y z ≡ hits.Success → passing r a l n .result ≡ decided r a l n x y z .result
   passed-by true y z e = absurd (fault-success e)
   passed-by false true z e = absurd (fault-success e)
   passed-by false false true e = absurd (fault-success e)
   passed-by false false false e = refl
 
-  pub passed-decision : standing r a l ≡ stance.Success → passing r a l n .result ≡ decision r a l n .result
-  unfolding decision standing
+  pub passed-decision : hitKind r a l ≡ hits.Success → passing r a l n .result ≡ decision r a l n .result
+  unfolding decision hitKind
   passed-decision e = passed-by (flagFails r l) (alignmentFails r a l) (permissionFails r a l) e

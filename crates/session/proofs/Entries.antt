@@ -1,4 +1,4 @@
--- Entries of the code in the model's values: what an entry holds and answers, and one entry of a list replaced.
+-- Entries of the code in the model's values: what an entry holds and isHit, and one entry of a list replaced.
 use Prim.Native.Nat.{ℕ, zero, suc, _≤_}
 use mathlib.Core.Bool.{Bool, true, false, _&&_}
 use mathlib.Core.List.{List, [], _∷_, map}
@@ -16,12 +16,12 @@ use Rattle.vmsa.specs.declared.Access.{Access}
 use Rattle.vmsa.specs.declared.Leaf.{Leaf}
 use Rattle.session.specs.declared.Entry.{Entry as EntryStruct}
 use Rattle.session.specs.declared.Session.{Session as SessionStruct}
-use Rattle.decision.specs.Decision.{decision, standing}
+use Rattle.decision.specs.Decision.{decision, hitKind}
 use Rattle.session.specs.Replies.{Reply, answered, replyOf}
 use Rattle.session.specs.Model.{Entry, Session, empty, holds, heldIn, held, keep, entryOf, learn, accessHeld, walked}
 use Rattle.session.specs.Ours.{judged, ours}
-use Rattle.session.specs.View.{entryView, noEntry, sessionView, stepped, answerOf, entryAnswer, entryFor, withEntry, keptIn, standingIn, answers}
-use Rattle.session.proofs.Deciding.{reply-decision, standing-decision}
+use Rattle.session.specs.View.{entryView, noEntry, sessionView, stepped, answerOf, entryAnswer, entryFor, withEntry, keptIn, hitKindIn, isHit}
+use Rattle.session.proofs.Deciding.{reply-decision, kind-decision}
 
 -- ---- what an entry holds of a page
 
@@ -147,19 +147,19 @@ module _ (s : SessionStruct) (a : Access) (e : EntryStruct) (q : getD (s .entrie
 -- ---- an entry that answers
 
 module _ (r : Regime) (a : Access) (e : EntryStruct) where
-  hit-leaf : (h : Leaf) → answers (standingIn (pick (dirtiedIn (judged r h a)) none (some (answered (judged r h a) 0)))) ≡ true
+  hit-leaf : (h : Leaf) → isHit (hitKindIn (pick (dirtiedIn (judged r h a)) none (some (answered (judged r h a) 0)))) ≡ true
       → some (replyOf (decision r a h 0 .result)) ≡ pick (dirtiedIn (judged r h a)) none (some (answered (judged r h a) 0))
   hit-leaf h t = by (dirtiedIn (judged r h a)) t
     where
-      by : (b : Bool) → answers (standingIn (pick b none (some (answered (judged r h a) 0)))) ≡ true → some (replyOf (decision r a h 0 .result)) ≡ pick b none (some (answered (judged r h a) 0))
+      by : (b : Bool) → isHit (hitKindIn (pick b none (some (answered (judged r h a) 0)))) ≡ true → some (replyOf (decision r a h 0 .result)) ≡ pick b none (some (answered (judged r h a) 0))
       by true t = clash (cc)
       by false t = ap (λ (o : Reply). some o) (reply-decision r a h 0)
 
-  hit-held : (x : Option Leaf) → (h : Leaf) → ((l : Leaf) → x ≡ some l → l ≡ h) → answers (standingIn (answerOf ours r a x)) ≡ true
-      → (some (replyOf (decision r a h 0 .result)) ≡ answerOf ours r a x) × (standing r a h ≡ standingIn (answerOf ours r a x))
+  hit-held : (x : Option Leaf) → (h : Leaf) → ((l : Leaf) → x ≡ some l → l ≡ h) → isHit (hitKindIn (answerOf ours r a x)) ≡ true
+      → (some (replyOf (decision r a h 0 .result)) ≡ answerOf ours r a x) × (hitKind r a h ≡ hitKindIn (answerOf ours r a x))
   hit-held none h q t = clash (cc)
   hit-held (some l) h q t =
-      subst (λ (y : Leaf). (some (replyOf (decision r a y 0 .result)) ≡ answerOf ours r a (some l)) × (standing r a y ≡ standingIn (answerOf ours r a (some l)))) (q l refl) (hit-leaf l t, standing-decision r a l 0)
+      subst (λ (y : Leaf). (some (replyOf (decision r a y 0 .result)) ≡ answerOf ours r a (some l)) × (hitKind r a y ≡ hitKindIn (answerOf ours r a (some l)))) (q l refl) (hit-leaf l t, kind-decision r a l 0)
 
   -- the leaf that an entry holds is its own, and stands at a level
   own-leaf : (l : Leaf) → heldIn (entryView e) (ours .page r a) ≡ some l → l ≡ leafIn e
@@ -173,14 +173,14 @@ module _ (r : Regime) (a : Access) (e : EntryStruct) where
       by true q = same (eqb (e .page) (ours .page r a)) q
       by false q = clash (cc)
 
-  hit-low-by : (x : Option Leaf) → heldIn (entryView e) (ours .page r a) ≡ x → answers (standingIn (answerOf ours r a x)) ≡ true → e .left ≤ 3
+  hit-low-by : (x : Option Leaf) → heldIn (entryView e) (ours .page r a) ≡ x → isHit (hitKindIn (answerOf ours r a x)) ≡ true → e .left ≤ 3
   hit-low-by none q t = clash (cc)
   hit-low-by (some l) q t = subst (λ (y : Leaf). y .left ≤ 3) (own-leaf l q) (held-low e (ours .page r a) l q)
 
-  pub hit-low : answers (standingIn (entryAnswer ours r a (entryView e))) ≡ true → e .left ≤ 3
+  pub hit-low : isHit (hitKindIn (entryAnswer ours r a (entryView e))) ≡ true → e .left ≤ 3
   hit-low t = hit-low-by (heldIn (entryView e) (ours .page r a)) refl t
 
-  -- its answer is that of steps 6 to 8 on its leaf, which stands to the access as the entry does
-  pub hit-answer : answers (standingIn (entryAnswer ours r a (entryView e))) ≡ true
-      → (some (replyOf (decision r a (leafIn e) 0 .result)) ≡ entryAnswer ours r a (entryView e)) × (standing r a (leafIn e) ≡ standingIn (entryAnswer ours r a (entryView e)))
+  -- its answer is that of steps 6 to 8 on its leaf, and so is its kind
+  pub hit-answer : isHit (hitKindIn (entryAnswer ours r a (entryView e))) ≡ true
+      → (some (replyOf (decision r a (leafIn e) 0 .result)) ≡ entryAnswer ours r a (entryView e)) × (hitKind r a (leafIn e) ≡ hitKindIn (entryAnswer ours r a (entryView e)))
   hit-answer t = hit-held (heldIn (entryView e) (ours .page r a)) (leafIn e) own-leaf t

@@ -171,7 +171,7 @@ module _ (W : Walker) where
   abbrev pub learn : Session → ℕ → Walked → Stepped
   learn s p w = record { session = record { regime = s .regime; entries = keep (s .entries) p (w .kept) }; memory = w .memory; reply = w .reply }
 
-  -- what a held leaf answers, unless a write or update would make it dirty: that walks again
+  -- what a held leaf isHit, unless a write or update would make it dirty: that walks again
   abbrev pub recall : Session → List ℕ → Regime → Access → Result → Stepped
   recall s m R a o = pick (dirtiedIn o) (learn s (page R a) (walked R m a)) (record { session = s; memory = m; reply = answered o 0 })
 

@@ -18,8 +18,8 @@ use Rattle.vmsa.specs.declared.Leaf.{Leaf}
 use Rattle.checks.specs.declared.Checked.{Checked}
 use Rattle.checks.specs.declared.Checked.the-variants.{Accepted, Refused}
 use Rattle.checks.specs.Order.{sessionAccessCheck}
-use Rattle.decision.specs.declared.Stance.{Stance}
-use Rattle.decision.specs.declared.Stance.the-variants as stance
+use Rattle.decision.specs.declared.HitKind.{HitKind}
+use Rattle.decision.specs.declared.HitKind.the-variants as hits
 use Rattle.walk.specs.declared.Walked.{Walked as WalkedStruct}
 use Rattle.walk.specs.declared.Kept.{Kept}
 use Rattle.walk.specs.declared.Kept.the-variants as kept
@@ -126,19 +126,19 @@ abbrev pub entryReply : ℕ → Access → Entry → Option Regime → Option Re
 entryReply n a e none = none
 entryReply n a e (some r) = checkedReply (sessionAccessCheck n (r .pool) a) (entryAnswer ours r a e)
 
--- how an entry stands to an access, from what it answers: a success, a fault, or nothing
-abbrev pub stanceOf : Result → Stance
-stanceOf (success s) = stance.Success
-stanceOf (fault f) = stance.Fault
-stanceOf (refusedWith n) = stance.Fault
+-- the kind of a hit, from what an entry answers: a success, a fault, or nothing, which is a miss; an entry answers nothing else
+abbrev pub hitKindOf : Result → HitKind
+hitKindOf (success s) = hits.Success
+hitKindOf (fault f) = hits.Fault
+hitKindOf (refusedWith n) = hits.Fault
 
-abbrev pub standingIn : Option Reply → Stance
-standingIn none = stance.Walk
-standingIn (some done) = stance.Fault
-standingIn (some (refused n)) = stance.Fault
-standingIn (some (answered o n)) = stanceOf o
+abbrev pub hitKindIn : Option Reply → HitKind
+hitKindIn none = hits.Miss
+hitKindIn (some done) = hits.Fault
+hitKindIn (some (refused n)) = hits.Fault
+hitKindIn (some (answered o n)) = hitKindOf o
 
-abbrev pub answers : Stance → Bool
-answers stance.Success = true
-answers stance.Fault = true
-answers stance.Walk = false
+abbrev pub isHit : HitKind → Bool
+isHit hits.Success = true
+isHit hits.Fault = true
+isHit hits.Miss = false

@@ -10,9 +10,9 @@ ghost use Rattle.walk.specs.Walk.{keptLeaf};
 ghost use Rattle.session.specs.Replies.{done, replyOf, replyTo};
 ghost use Rattle.session.specs.Model.{fresh, entryCount, heldIn, walked as walkedOf, setCall, accessCall, storeCall, dropCall};
 ghost use Rattle.session.specs.Ours.{usable as usableOf, ours};
-ghost use Rattle.session.specs.View.{noEntry, entryView, regimeIn, sessionView, stepped, heldLeaf, entryAnswer, askedReply, Low, walkedView, entryFor, keptIn, Answers, Fills, Stores, entryReply, standingIn};
+ghost use Rattle.session.specs.View.{noEntry, entryView, regimeIn, sessionView, stepped, heldLeaf, entryAnswer, askedReply, Low, walkedView, entryFor, keptIn, Answers, Fills, Stores, entryReply, hitKindIn};
 use checks::Checked;
-use decision::Stance;
+use decision::HitKind;
 use vmsa::Access;
 use vmsa::Answer;
 use vmsa::Fault;
@@ -121,21 +121,21 @@ impl Entry {
         Asked::Answered(answer)
     }
 
-    // How it stands to an access: one of another page, or one that makes the page dirty, is left to the walk.
-    pub fn standing(self, r: Regime, a: Access) -> Stance
+    // How it answers an access: one of another page, or one that would make the page dirty, misses.
+    pub fn hit_kind(self, r: Regime, a: Access) -> HitKind
         requires { ⌜ 0 < a .size ⌝ }
-        ensures { λ s. ⌜ s ≡ standingIn (entryAnswer ours r a (entryView self)) ⌝ }
+        ensures { λ s. ⌜ s ≡ hitKindIn (entryAnswer ours r a (entryView self)) ⌝ }
     {
         let page = geometry::page_of(vmsa::PAGE_BITS, a.address);
         let Held::Leaf(leaf) = self.held_of(page) else {
-            return Stance::Walk;
+            return HitKind::Miss;
         };
-        decision::standing(r, a, leaf)
+        decision::hit_kind(r, a, leaf)
     }
 
     // The fault that it answers with, where it does.
     pub fn fault(self, r: Regime, a: Access) -> Fault
-        requires { ⌜ (0 < a .size) × (standingIn (entryAnswer ours r a (entryView self)) ≡ Stance.Fault) ⌝ }
+        requires { ⌜ (0 < a .size) × (hitKindIn (entryAnswer ours r a (entryView self)) ≡ HitKind.Fault) ⌝ }
         ensures { λ f. ⌜ some (replyOf (view (Answer.Fault f))) ≡ entryAnswer ours r a (entryView self) ⌝ }
     {
         let leaf = Leaf {
@@ -147,7 +147,7 @@ impl Entry {
 
     // The success that it answers with, where it does.
     pub fn success(self, r: Regime, a: Access) -> Success
-        requires { ⌜ standingIn (entryAnswer ours r a (entryView self)) ≡ Stance.Success ⌝ }
+        requires { ⌜ hitKindIn (entryAnswer ours r a (entryView self)) ≡ HitKind.Success ⌝ }
         ensures { λ s. ⌜ some (replyOf (view (Answer.Success s))) ≡ entryAnswer ours r a (entryView self) ⌝ }
     {
         let leaf = Leaf {
@@ -258,17 +258,17 @@ pub fn access_entry(
     }
 }
 
-// How the entry stands to an access in such a session, over n bytes of memory; it answers none that is refused.
-pub fn standing(regime: RegimeWords, set: u8, entry: Entry, n: usize, a: Access) -> Stance
-    ensures { λ s. ⌜ s ≡ standingIn (entryReply n a (entryView entry) (regimeIn regime set)) ⌝ }
+// How the entry answers an access in such a session, over n bytes of memory; one that is refused misses.
+pub fn hit_kind(regime: RegimeWords, set: u8, entry: Entry, n: usize, a: Access) -> HitKind
+    ensures { λ s. ⌜ s ≡ hitKindIn (entryReply n a (entryView entry) (regimeIn regime set)) ⌝ }
 {
     if set == 0 {
-        return Stance::Walk;
+        return HitKind::Miss;
     }
     let r = regime.regime();
     match checks::check_session_access(n, r.pool, a) {
-        Checked::Refused(_) => Stance::Walk,
-        Checked::Accepted => entry.standing(r, a),
+        Checked::Refused(_) => HitKind::Miss,
+        Checked::Accepted => entry.hit_kind(r, a),
     }
 }
 

@@ -19,12 +19,12 @@ use Rattle.vmsa.proofs.Words.{regime-words}
 use Rattle.checks.specs.declared.Checked.{Checked}
 use Rattle.checks.specs.declared.Checked.the-variants.{Accepted, Refused}
 use Rattle.checks.specs.Order.{regimeCheck}
-use Rattle.decision.specs.declared.Stance.the-variants as stance
+use Rattle.decision.specs.declared.HitKind.the-variants as hits
 use Rattle.session.specs.declared.Session.{Session as SessionStruct}
 use Rattle.session.specs.Replies.{Reply, done, refused as refusedWith, answered, replyOf, replyTo}
 use Rattle.session.specs.Model.{setBy, accessCall, setCall}
 use Rattle.session.specs.Ours.{ours}
-use Rattle.session.specs.View.{noEntry, entryView, regimeIn, sessionView, setTo, entryFor, entryReply, standingIn, answers}
+use Rattle.session.specs.View.{noEntry, entryView, regimeIn, sessionView, setTo, entryFor, entryReply, hitKindIn, isHit}
 use Rattle.session.proofs.Calls.{set-checked, reply-is-call}
 use Rattle.words.specs.declared.AnswerWords.{AnswerWords}
 use Rattle.words.specs.declared.Hit.{Hit}
@@ -67,17 +67,17 @@ set-is-call n g x e s m long =
 -- ---- a hit
 
 -- a reply is an answer
-told : (reply : Reply) → answers (standingIn (some reply)) ≡ true
+told : (reply : Reply) → isHit (hitKindIn (some reply)) ≡ true
 told done = refl
 told (refusedWith n) = refl
 told (answered (success s) n) = refl
 told (answered (fault f) n) = refl
 told (answered (refused k) n) = refl
 
-pub no-hit : (x : Option Reply) (w : AnswerWords) → w ≡ wordsOf (refused 0) → stance.Walk ≡ standingIn x → record { hit = false; answer = w } ≡ hitOf x
+pub no-hit : (x : Option Reply) (w : AnswerWords) → w ≡ wordsOf (refused 0) → hits.Miss ≡ hitKindIn x → record { hit = false; answer = w } ≡ hitOf x
 unfolding hitOf
 no-hit none w e q = rw e
-no-hit (some reply) w e q = let t = sym (told reply) ∙ ap answers (sym q) in clash (cc)
+no-hit (some reply) w e q = let t = sym (told reply) ∙ ap isHit (sym q) in clash (cc)
 
 pub hit : (x : Option Reply) (o : Result) (w : AnswerWords) → w ≡ wordsOf o → some (replyOf o) ≡ x → record { hit = true; answer = w } ≡ hitOf x
 unfolding hitOf

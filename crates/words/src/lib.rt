@@ -8,7 +8,7 @@ ghost use Rattle.session.specs.Model.{entryCount};
 ghost use Rattle.session.specs.View.{entryView, regimeIn, entryFor, entryReply};
 ghost use Rattle.words.specs.Words.{kindOf, accessOf, wordsOf, told, walkTold, refusalByte, setWords, hitOf, FillsWords, StoresWords};
 use checks::Checked;
-use decision::Stance;
+use decision::HitKind;
 use session::Entry;
 use vmsa::Access;
 use vmsa::AccessKind;
@@ -227,16 +227,16 @@ pub fn hit_entry(regime: RegimeWords, set: u8, entry: Entry, n: usize, access: A
 {
     let a = access_of(access);
     let r = regime.regime();
-    match session::standing(regime, set, entry, n, a) {
-        Stance::Success => Hit {
+    match session::hit_kind(regime, set, entry, n, a) {
+        HitKind::Success => Hit {
             hit: true,
             answer: success_words(entry.success(r, a)),
         },
-        Stance::Fault => Hit {
+        HitKind::Fault => Hit {
             hit: true,
             answer: fault_words(entry.fault(r, a)),
         },
-        Stance::Walk => Hit {
+        HitKind::Miss => Hit {
             hit: false,
             answer: no_answer(),
         },

@@ -2,19 +2,19 @@ use mathlib.Core.Path.{ap, _∙_}
 use mathlib.Core.Option.{some}
 use Rattle.vmsa.specs.Answers.{Result}
 use Rattle.session.specs.Replies.{replyOf}
-use Rattle.session.specs.View.{answers}
+use Rattle.session.specs.View.{isHit}
 use Rattle.session.proofs.Deciding.{passed-decision}
 use Rattle.session.proofs.Entries.{leafIn, hit-low, hit-answer}
 use Rattle.session.proofs.Entry.success.Statement.{statement}
 use Rattle.session.proofs.Entry.success.Tie as tie
 
 success-requires : tie.Need-success-requires
-success-requires c κs = hit-low (c .args .r) (c .args .a) (c .args .self) (ap answers (c .pre))
+success-requires c κs = hit-low (c .args .r) (c .args .a) (c .args .self) (ap isHit (c .pre))
 
 returns : tie.Need-returns
 returns c =
     let s = c .before in
-    let h = hit-answer (s .args .r) (s .args .a) (s .args .self) (ap answers (s .pre)) in
+    let h = hit-answer (s .args .r) (s .args .a) (s .args .self) (ap isHit (s .pre)) in
     ap (λ (o : Result). some (replyOf o)) (c .success .ensures ∙ passed-decision (s .args .r) (s .args .a) (leafIn (s .args .self)) 0 (h .1 ∙ s .pre)) ∙ h .0
 
 pub success-spec : {M : Type 1} → statement M

@@ -3,14 +3,14 @@ use mathlib.Core.Bool.{not}
 use mathlib.Core.Path.{sym, ap, _∙_}
 use borrow.Author.Tests.{eq-eqb, ne-eqb}
 use Rattle.session.proofs.Calls.{access-accepted}
-use Rattle.session.proofs.standing.Statement.{statement}
-use Rattle.session.proofs.standing.Tie as tie
+use Rattle.session.proofs.hit_kind.Statement.{statement}
+use Rattle.session.proofs.hit_kind.Tie as tie
 
 returns : tie.Need-returns
 returns c = rw (ap not (eq-eqb (c .before .args .set) 0 (c .if1 .taken)))
 
-standing-requires : tie.Need-standing-requires
-standing-requires c κs =
+hit-kind-requires : tie.Need-hit-kind-requires
+hit-kind-requires c κs =
     let a = c .before .before .before .before .before .args in
     access-accepted (a .n) (c .before .before .before .regime .result .pool) (a .a) (sym (c .before .before .check-session-access .ensures) ∙ c .enum-told2 .given .1) .1
 
@@ -24,10 +24,10 @@ returns-3 : tie.Need-returns-3
 returns-3 c =
     let a = c .before .before .before .before .before .before .args in
     let h = sym (rw (c .before .before .before .before .regime .ensures) at (c .before .before .before .check-session-access .ensures)) ∙ c .before .enum-told2 .given .1 in
-    rw (ap not (ne-eqb (a .set) 0 (c .before .before .before .before .before .if1 .left)), h) (rw (c .before .before .before .before .regime .ensures) at (c .standing .ensures))
+    rw (ap not (ne-eqb (a .set) 0 (c .before .before .before .before .before .if1 .left)), h) (rw (c .before .before .before .before .regime .ensures) at (c .hit-kind .ensures))
 
-pub standing-spec : {M : Type 1} → statement M
-standing-spec =
+pub hit-kind-spec : {M : Type 1} → statement M
+hit-kind-spec =
     tie.close
     (tie.spec
     returns
@@ -35,6 +35,6 @@ standing-spec =
     (λ c κs. search needs)
     (λ c. search needs)
     (λ c. search needs)
-    standing-requires
+    hit-kind-requires
     returns-2
     returns-3)

@@ -3,25 +3,25 @@ use mathlib.Core.Path.{_≡_, sym, ap, _∙_}
 use mathlib.Core.Option.{some}
 use Rattle.session.specs.Model.{heldIn}
 use Rattle.session.specs.Ours.{ours}
-use Rattle.session.specs.View.{entryView, heldLeaf, standingIn}
-use Rattle.session.proofs.Deciding.{standing-decision}
+use Rattle.session.specs.View.{entryView, heldLeaf, hitKindIn}
+use Rattle.session.proofs.Deciding.{kind-decision}
 use Rattle.session.proofs.Entries.{answer-none}
-use Rattle.session.proofs.Entry.standing.Statement.{statement}
-use Rattle.session.proofs.Entry.standing.Tie as tie
+use Rattle.session.proofs.Entry.hit_kind.Statement.{statement}
+use Rattle.session.proofs.Entry.hit_kind.Tie as tie
 
 returns : tie.Need-returns
 returns c =
     let a = c .before .before .before .before .args in
-    ap standingIn (answer-none (a .r) (a .a) (entryView (a .self)) (rw (← c .before .before .before .page-of .ensures) (sym (c .before .before .held-of .ensures) ∙ ap heldLeaf (c .enum-told .given .1))))
+    ap hitKindIn (answer-none (a .r) (a .a) (entryView (a .self)) (rw (← c .before .before .before .page-of .ensures) (sym (c .before .before .held-of .ensures) ∙ ap heldLeaf (c .enum-told .given .1))))
 
 returns-2 : tie.Need-returns-2
 returns-2 c =
     let a = c .before .before .before .before .before .before .args in
     let l = c .before .before .leaf .given .0 .0 in
     let h : heldIn (entryView (a .self)) (ours .page (a .r) (a .a)) ≡ some l = rw (← c .before .before .before .before .before .page-of .ensures) (sym (c .before .before .before .before .held-of .ensures) ∙ ap heldLeaf (c .before .before .leaf .given .1)) in
-    rw h (c .standing .ensures ∙ standing-decision (a .r) (a .a) l 0)
+    rw h (c .hit-kind .ensures ∙ kind-decision (a .r) (a .a) l 0)
 
-pub standing-spec : {M : Type 1} → statement M
-standing-spec =
+pub hit-kind-spec : {M : Type 1} → statement M
+hit-kind-spec =
     tie.close
     (tie.spec (λ c κs. search needs) (λ c κs. search needs) (λ c. search needs) (λ c. search needs) returns (λ c κs. search needs) returns-2)
