@@ -10,9 +10,9 @@ pub use ffi::{Access, Answer, Regime};
 
 pub const READ: u8 = 0;
 pub const WRITE: u8 = 1;
-pub const UPDATE: u8 = 2;
 pub const FETCH: u8 = 3;
 pub const PROBE_READ: u8 = 4;
+pub const PROBE_WRITE: u8 = 5;
 
 pub const SUCCESS: u8 = 0;
 pub const FAULT: u8 = 1;

@@ -70,9 +70,9 @@ impl Random {
         };
         let kind = self.below(8) as u8;
         let (size, step) = match kind {
-            0..=2 => (1 << self.below(5), 1),
             3 => (4, 4),
-            _ => (1, 1),
+            4 | 5 => (1, 1),
+            _ => (1 << self.below(5), 1),
         };
         let size = if self.rarely() { self.below(20) } else { size };
         let step = if self.rarely() { 1 } else { step };

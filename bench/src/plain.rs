@@ -2,7 +2,7 @@
 //! levels, and a session changed where it lies.
 
 use crate::boundary::{Access, Answer, Regime};
-use crate::boundary::{FAULT, FETCH, PROBE_READ, READ, REFUSED, SUCCESS, UPDATE, WRITE};
+use crate::boundary::{FAULT, FETCH, PROBE_READ, PROBE_WRITE, READ, REFUSED, SUCCESS};
 
 const MEMORY_LIMIT: usize = 1 << 20;
 const POOL_LIMIT: usize = 1 << 16;
@@ -112,10 +112,11 @@ fn refuse_regime(length: usize, regime: &Regime) -> Option<u8> {
 }
 
 fn refuse_access(access: &Access) -> Option<u8> {
+    // A kind above 5 is taken as an update, here and below.
     let size_known = match access.kind {
-        READ | WRITE | UPDATE => matches!(access.size, 1 | 2 | 4 | 8 | 16),
         FETCH => access.size == 4 && access.address.is_multiple_of(4),
-        _ => access.size == 1,
+        PROBE_READ | PROBE_WRITE => access.size == 1,
+        _ => matches!(access.size, 1 | 2 | 4 | 8 | 16),
     };
     if !size_known {
         Some(6)
@@ -209,7 +210,7 @@ impl Leaf {
             ..fault(code, level, reads)
         };
 
-        let plain = matches!(access.kind, READ | WRITE | UPDATE);
+        let plain = !matches!(access.kind, FETCH | PROBE_READ | PROBE_WRITE);
         if plain && device && access.address & (access.size - 1) != 0 {
             return fault(ALIGNMENT);
         }
@@ -227,8 +228,11 @@ impl Leaf {
             return fault(PERMISSION + u16::from(level));
         }
 
-        let accessed = !is(AF) && access.kind < PROBE_READ;
-        let dirtied = is(AP2) && matches!(access.kind, WRITE | UPDATE);
+        let (accessed, dirtied) = match access.kind {
+            READ | FETCH => (!is(AF), false),
+            PROBE_READ | PROBE_WRITE => (false, false),
+            _ => (!is(AF), is(AP2)),
+        };
         let inside = (1 << (12 + 9 * self.left)) - 1;
         Answer {
             output: self.base() | access.address & inside,

@@ -6,14 +6,15 @@
  * table pool is a part of it; no byte outside the pool is changed or has a
  * say in any answer. Link with libcapi.a; a 64-bit, little-endian host.
  *
- * Nothing needs checking before a call: every field may have any value, a
+ * No value needs checking before a call: every field may have any value, a
  * flag is true where its byte is not 0, and the memory pointer may be null
  * where the length is 0. A call that makes no sense is refused with a number
  * (enum vmsa_refusal) and changes neither memory nor session.
  *
- * A pointer to a struct may not be null, and no two pointers of one call may
- * name the same bytes. No function keeps a pointer. Two threads may call at
- * the same time unless they share a memory or a session.
+ * Two things are out of contract: a bad pointer (null for a struct, or one
+ * that does not name a whole struct or length bytes), and two pointers of one
+ * call that overlap. No function keeps a pointer. Two threads may call at the
+ * same time unless they share a memory or a session.
  */
 #ifndef VMSA_H
 #define VMSA_H
@@ -26,7 +27,7 @@ extern "C" {
 #endif
 
 /* The version of this interface; vmsa_version() gives the library's. */
-#define VMSA_VERSION 2u
+#define VMSA_VERSION 3u
 
 /* The most bytes of a lent memory, and of a pool. */
 #define VMSA_MEMORY_LIMIT 1048576u
@@ -56,7 +57,10 @@ struct vmsa_regime {
     uint8_t wxn;         /* writable pages are execute-never */
 };
 
-/* The kinds of an access. A kind above 5 is taken as VMSA_PROBE_WRITE. */
+/*
+ * The kinds of an access. A kind above 5 is taken as VMSA_UPDATE, so that no
+ * write passes without its dirty mark under a wrong number.
+ */
 enum vmsa_kind {
     VMSA_READ = 0,
     VMSA_WRITE = 1,

@@ -59,17 +59,17 @@ pub const FAULT: u8 = 1;
 pub const REFUSED: u8 = 2;
 
 /// How the plain numbers are spelled: any nonzero byte says true, and every
-/// number from 5 up says probe-write.
+/// number above 5 says update, as 2 does.
 #[derive(Clone, Copy, Debug)]
 pub struct Spelling {
     pub truth: u8,
-    pub probe_write: u8,
+    pub update: u8,
 }
 
 impl Spelling {
     pub const PLAIN: Spelling = Spelling {
         truth: 1,
-        probe_write: 5,
+        update: 2,
     };
 
     pub fn draw(random: &mut Random) -> Self {
@@ -78,7 +78,7 @@ impl Spelling {
         }
         Spelling {
             truth: random.pick(&[1, 2, 3, 4, 16, 0x7F, 0x80, 0xFE, 0xFF]),
-            probe_write: random.pick(&[5, 6, 7, 8, 9, 10, 0x80, 0x85, 0xFE, 0xFF]),
+            update: random.pick(&[2, 6, 7, 8, 9, 10, 0x80, 0x85, 0xFE, 0xFF]),
         }
     }
 
@@ -118,10 +118,10 @@ impl Spelling {
             kind: match access.kind {
                 Kind::Read => 0,
                 Kind::Write => 1,
-                Kind::Update => 2,
+                Kind::Update => self.update,
                 Kind::Fetch => 3,
                 Kind::ProbeRead => 4,
-                Kind::ProbeWrite => self.probe_write,
+                Kind::ProbeWrite => 5,
             },
         }
     }

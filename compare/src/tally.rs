@@ -52,7 +52,7 @@ pub enum Place {
     ShortestMemory,
     /// Success where truth is spelled with a byte other than 1.
     OddTruth,
-    /// Success where probe-write is spelled with a number above 5.
+    /// A dirty mark where update is spelled with a number above 5.
     OddKind,
 }
 
@@ -349,7 +349,8 @@ impl Tally {
                 if case.spelling.truth != 1 {
                     self.meet(F::Place(Place::OddTruth));
                 }
-                if access.kind == Kind::ProbeWrite && case.spelling.probe_write > 5 {
+                let odd = access.kind == Kind::Update && case.spelling.update > 5;
+                if odd && answer.dirtied != 0 {
                     self.meet(F::Place(Place::OddKind));
                 }
             }

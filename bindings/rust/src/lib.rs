@@ -69,7 +69,7 @@ pub const MEMORY_LIMIT: usize = 1_048_576;
 pub const POOL_LIMIT: usize = 65_536;
 
 /// The version of the C interface that this crate speaks.
-pub const VERSION: u32 = 2;
+pub const VERSION: u32 = 3;
 
 /// The version of the library that is linked in; to be [`VERSION`].
 pub fn version() -> u32 {

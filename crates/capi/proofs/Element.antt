@@ -18,7 +18,7 @@ use ghost.Atoms.{Atoms}
 use types.Kit.{Given, Item, ‵, raw, mean, _⊛_, _$_, _∵_, !, qed, move, use1, use2, split, frame, each as for-each, assume, done}
 use types.Part.{Part}
 use denote.Index.{place}
-use Rattle.session.proofs.Entries.{set-same}
+use Rattle.session.proofs.Lists.{set-same}
 
 module _ {M : Type 1} (𝓤 : URA M) (H : Heap 𝓤) (A : Atoms 𝓤) (W : Given 𝓤 H A) (q : Share) (τ : Ty) (b : ℕ) where
   abbrev Back : List Val → ℕ → ℕ → Val → SProp 𝓤

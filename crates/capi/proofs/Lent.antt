@@ -55,17 +55,18 @@ use denote.Triple.Spec.{Meets, tripleOf}
 use denote.Triple.Table.{entered, cited}
 use denote.Triple.Walked.{Stays, AllGo, Walks, walk-meets}
 use Rattle.vmsa.specs.declared.RegimeWords.{RegimeWords}
-use Rattle.session.specs.declared.Entry.{Entry}
+use Rattle.tlb.specs.declared.Entry.{Entry}
 use Rattle.session.specs.declared.Session.{Session}
-use Rattle.session.specs.Model.{entryCount}
-use Rattle.session.proofs.Entries.{map-set}
-use Rattle.session.specs.View.{noEntry, withEntry}
+use Rattle.tlb.specs.Walker.{entryCount}
+use Rattle.session.proofs.Lists.{map-set}
+use Rattle.tlb.specs.Entries.{noEntry}
+use Rattle.session.specs.View.{withEntry}
 use Rattle.vmsa.proofs.RegimeWords as R
 use Rattle.vmsa.proofs.RegimeWords.Laws as R′
-use Rattle.session.proofs.Entry as E
-use Rattle.session.proofs.Entry.Laws as E′
-use Rattle.session.proofs.Entry.empty as empty
-use Rattle.session.proofs.Entry.empty.Symbol.{name as #empty}
+use Rattle.tlb.proofs.Entry as E
+use Rattle.tlb.proofs.Entry.Laws as E′
+use Rattle.tlb.proofs.Entry.empty as empty
+use Rattle.tlb.proofs.Entry.empty.Symbol.{name as #empty}
 use Rattle.session.proofs.Session as S
 use Rattle.session.proofs.Session.Laws as S′
 

@@ -1,3 +1,4 @@
 pub mod Lent
 pub mod Element
 pub mod Shared
+pub mod Promises

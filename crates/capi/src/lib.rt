@@ -1,26 +1,23 @@
-// The C interface: structs of numbers, the memory as a pointer and a length. Nothing that a caller passes is out of contract.
+// The C interface: structs of numbers, the memory as a pointer and a length. Nothing that a caller passes is out of contract but a bad pointer, or two that overlap.
 ghost use mathlib.Core.Path.{_≡_};
-ghost use mathlib.Core.List.{List};
-ghost use Prim.Native.Nat.{ℕ};
 ghost use Rattle.vmsa.specs.Words.{regimeOf};
-ghost use Rattle.session.specs.Replies.{done};
-ghost use Rattle.session.specs.Model.{fresh, setCall, accessCall, storeCall, dropCall};
-ghost use Rattle.session.specs.Ours.{ours};
-ghost use Rattle.session.specs.View.{sessionView, stepped};
-ghost use Rattle.words.specs.Words.{accessOf, told, walkTold, changed, changedBy, accessed, accessedBy};
-use session::ENTRIES;
-use session::Entry;
+ghost use Rattle.tlb.specs.Replies.{told};
+ghost use Rattle.session.specs.Model.{left, setRegime, access as accessing, store};
+ghost use Rattle.session.specs.View.{emptySession, emptied, leaves};
+ghost use Rattle.words.specs.Words.{accessOf, walkWords, refusalByte, replyWords, replied};
 use session::Session;
+use tlb::ENTRIES;
+use tlb::Entry;
 use vmsa::RegimeWords;
 use words::AccessWords;
 use words::AnswerWords;
 
 // The version of this interface.
-pub const VERSION: u32 = 2;
+pub const VERSION: u32 = 3;
 
 #[no_mangle]
 pub extern "C" fn vmsa_version() -> u32
-    ensures { λ r. ⌜ r ≡ 2 ⌝ }
+    ensures { λ r. ⌜ r ≡ 3 ⌝ }
 {
     VERSION
 }
@@ -32,7 +29,7 @@ pub extern "C" fn vmsa_walk(
     regime: &RegimeWords,
     access: &AccessWords,
 ) -> AnswerWords
-    ensures { λ w. ⌜ told w (now (memory .exit)) ≡ walkTold (regimeOf (now (regime .entry))) (accessOf (now (access .entry))) (now (memory .entry)) ⌝ }
+    ensures { λ w. ⌜ told w (now (memory .exit)) ≡ walkWords (regimeOf (now (regime .entry))) (accessOf (now (access .entry))) (now (memory .entry)) ⌝ }
 {
     let regime = *regime;
     let access = *access;
@@ -42,7 +39,7 @@ pub extern "C" fn vmsa_walk(
 // The fresh session: no regime, and every entry empty.
 #[no_mangle]
 pub extern "C" fn vmsa_session_empty() -> Session
-    ensures { λ s. ⌜ sessionView s ≡ fresh ⌝ }
+    ensures { λ s. ⌜ s ≡ emptySession ⌝ }
 {
     Session::empty()
 }
@@ -54,7 +51,7 @@ pub extern "C" fn vmsa_session_set_regime(
     memory: &[u8],
     regime: &RegimeWords,
 ) -> u8
-    ensures { λ n. ⌜ changed (now (session .exit)) (now (memory .entry)) n ≡ changedBy (setCall ours (sessionView (now (session .entry))) (now (memory .entry)) (regimeOf (now (regime .entry)))) ⌝ }
+    ensures { λ n. ⌜ left (now (session .exit)) (now (memory .entry)) n ≡ replied refusalByte (leaves (now (session .entry)) (now (memory .entry)) (setRegime (regimeOf (now (regime .entry))))) ⌝ }
 {
     let regime = *regime;
     let x = words::set_words(memory.len(), regime);
@@ -75,7 +72,7 @@ pub extern "C" fn vmsa_session_access(
     memory: &mut [u8],
     access: &AccessWords,
 ) -> AnswerWords
-    ensures { λ w. ⌜ accessed (now (session .exit)) (now (memory .exit)) w ≡ accessedBy (accessCall ours (sessionView (now (session .entry))) (now (memory .entry)) (accessOf (now (access .entry)))) ⌝ }
+    ensures { λ w. ⌜ left (now (session .exit)) (now (memory .exit)) w ≡ replied replyWords (leaves (now (session .entry)) (now (memory .entry)) (accessing (accessOf (now (access .entry))))) ⌝ }
 {
     let access = *access;
     let i = words::entry_of(access);
@@ -97,7 +94,7 @@ pub extern "C" fn vmsa_session_store(
     address: u64,
     value: u64,
 ) -> u8
-    ensures { λ n. ⌜ changed (now (session .exit)) (now (memory .exit)) n ≡ changedBy (storeCall ours (sessionView (now (session .entry))) (now (memory .entry)) address value) ⌝ }
+    ensures { λ n. ⌜ left (now (session .exit)) (now (memory .exit)) n ≡ replied refusalByte (leaves (now (session .entry)) (now (memory .entry)) (store address value)) ⌝ }
 {
     words::store_words(session.regime, session.set, memory, address, value)
 }
@@ -105,7 +102,7 @@ pub extern "C" fn vmsa_session_store(
 // Empties every entry of the lent session.
 #[no_mangle]
 pub extern "C" fn vmsa_session_invalidate_all(session: &mut Session)
-    ensures { λ _. ⌜ ((m : List ℕ) → stepped (now (session .exit)) m done ≡ dropCall ours (sessionView (now (session .entry))) m) ⌝ }
+    ensures { λ _. ⌜ now (session .exit) ≡ emptied (now (session .entry)) ⌝ }
 {
     let entry = Entry::empty();
     session.entries = [entry; ENTRIES];

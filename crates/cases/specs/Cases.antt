@@ -22,8 +22,8 @@ abbrev pub poolAddress : ℕ
 poolAddress = 0x40000000
 
 -- a pool of n bytes, from the memory's first byte on
-abbrev pub poolOf : ℕ → Pool
-poolOf n = record { start = 0; length = n; address = record { 0 = poolAddress } }
+abbrev pub workedPool : ℕ → Pool
+workedPool n = record { start = 0; length = n; address = record { 0 = poolAddress } }
 
 -- either range
 abbrev pub range : Range
@@ -35,7 +35,7 @@ eight attribute = 0x0101010101010101 * attribute
 
 abbrev pub base : Regime
 base = record {
-  pool = poolOf 65536;
+  pool = workedPool 65536;
   range0 = range;
   range1 = range;
   output = 5;
@@ -173,8 +173,8 @@ rows =
     ∷ row base (access 0x403FFC 4 Read) tables (passed 0x80005FFC true false true) (leafNow accessedLeaf)
     ∷ row base (access 0x403FFD 4 Read) tables (refused 7) []
     -- P12
-    ∷ row (withPool base (poolOf 65536)) (usual Read) tables (passed 0x80005ABC true false true) (leafNow accessedLeaf)
-    ∷ row (withPool base (poolOf 69632)) (usual Read) tables (refused 1) []
+    ∷ row (withPool base (workedPool 65536)) (usual Read) tables (passed 0x80005ABC true false true) (leafNow accessedLeaf)
+    ∷ row (withPool base (workedPool 69632)) (usual Read) tables (refused 1) []
     -- a fault of step 1 counts no reads
     ∷ row (withRange0 base disabledRange) (usual Read) tables (failed 4 0 false 0) []
     -- a Permission fault may be remembered where the Access flag is set

@@ -19,8 +19,8 @@ use Rattle.decision.specs.declared.HitKind.the-variants as hits
 use Rattle.decision.specs.declared.Verdict.{Verdict}
 
 -- steps 6 to 8, in their order: each with the fault that it gives (01, "The walk")
-abbrev pub leafSteps : Regime → Access → Leaf → List (Bool × FaultKind)
-leafSteps r a l = (flagFails r l, AccessFlag) ∷ (alignmentFails r a l, Alignment) ∷ (permissionFails r a l, Permission) ∷ []
+abbrev pub leafTests : Regime → Access → Leaf → List (Bool × FaultKind)
+leafTests r a l = (flagFails r l, AccessFlag) ∷ (alignmentFails r a l, Alignment) ∷ (permissionFails r a l, Permission) ∷ []
 
 -- what the first step that fails gives, or else what passing all gives
 abbrev pub firstFailing : {A : Type 0} → List (Bool × FaultKind) → (FaultKind → A) → A → A
@@ -79,11 +79,11 @@ passing r a l reads = record {
 
 -- steps 6 to 8, reads descriptors having been read
 unfoldable pub decision : Regime → Access → Leaf → ℕ → Decision
-decision r a l reads = firstFailing (leafSteps r a l) (failing l reads) (passing r a l reads)
+decision r a l reads = firstFailing (leafTests r a l) (failing l reads) (passing r a l reads)
 
 -- how a held leaf answers an access: with a fault, with a success, or not at all where it would become dirty: that walks again (01, "The session")
 unfoldable pub hitKind : Regime → Access → Leaf → HitKind
-hitKind r a l = firstFailing (leafSteps r a l) (λ (kind : FaultKind). hits.Fault) (pick (dirtyDue r a l) hits.Miss hits.Success)
+hitKind r a l = firstFailing (leafTests r a l) (λ (kind : FaultKind). hits.Fault) (pick (dirtyDue r a l) hits.Miss hits.Success)
 
 -- a verdict of the code, in these values
 abbrev pub seen : Verdict → Decision

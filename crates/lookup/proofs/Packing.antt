@@ -15,7 +15,7 @@ use Rattle.lookup.specs.declared.Located.{Located}
 use Rattle.lookup.specs.declared.Context.{Context}
 use Rattle.lookup.specs.Trace.{End, fault, leaf, ended, shownEnd, shown}
 use Rattle.lookup.specs.Steps.{fetched, descend}
-use Rattle.lookup.specs.Packing.{kindNumber, kindOf, leafNumber, joined, packedEnd, packed, Backed, Packs}
+use Rattle.lookup.specs.Packing.{kindNumber, kindNumbered, leafNumber, joined, packedEnd, packed, Backed, Packs}
 use Rattle.lookup.proofs.Reach.{in-pool, descend-visited, descend-backed}
 
 -- the number that the cycle hands back stands for the lookup from that table on
@@ -52,8 +52,8 @@ digits : (n reads level number address : ℕ) → n ≡ joined reads level numbe
 unfolding joined
 digits n reads level number address e r l k = record { reads-is = omega arith; level-is = omega arith; number-is = omega arith; address-is = omega arith }
 
-kind-back : (kind : FaultKind) → (kindNumber kind ≤ 5) × (kindOf (kindNumber kind) ≡ kind)
-unfolding kindOf
+kind-back : (kind : FaultKind) → (kindNumber kind ≤ 5) × (kindNumbered (kindNumber kind) ≡ kind)
+unfolding kindNumbered
 kind-back AddressSize = (lit≤ tt, refl)
 kind-back Translation = (lit≤ tt, refl)
 kind-back AccessFlag = (lit≤ tt, refl)
@@ -83,7 +83,7 @@ module _ (pool : List ℕ) (base n : ℕ) where
   }
 
   fault-by : (k : ℕ) (e : End) → n ≡ packedEnd k e → k ≤ 4 → Backed pool base e → (numberIn n ≡ leafNumber → ⊥)
-      → shownEnd (readsIn n) (fault (kindOf (numberIn n)) (levelIn n)) ≡ shownEnd k e
+      → shownEnd (readsIn n) (fault (kindNumbered (numberIn n)) (levelIn n)) ≡ shownEnd k e
   fault-by k (fault kind level) q h w x =
       let d = digits n k level (kindNumber kind) 0 q h w (omega (arith, kind-back kind .0)) in
       rw (d .reads-is, d .level-is, d .number-is, kind-back kind .1)
@@ -103,7 +103,7 @@ module _ (pool : List ℕ) (base n : ℕ) where
     unfolding packed
     same = p .same ∙ ap (λ (k : ℕ). packedEnd k (p .trace .end)) (zero-add (length (p .trace .visited)))
 
-    pub fault-unpacked : (numberIn n ≡ leafNumber → ⊥) → shown (readsIn n) (ended (fault (kindOf (numberIn n)) (levelIn n))) ≡ shown 0 (p .trace)
+    pub fault-unpacked : (numberIn n ≡ leafNumber → ⊥) → shown (readsIn n) (ended (fault (kindNumbered (numberIn n)) (levelIn n))) ≡ shown 0 (p .trace)
     unfolding shown
     fault-unpacked x = rw (add-zero (readsIn n), zero-add (length (p .trace .visited))) (fault-by (length (p .trace .visited)) (p .trace .end) same (p .reads) (p .end) x)
 

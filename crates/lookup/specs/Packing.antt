@@ -19,8 +19,8 @@ kindNumber Permission = 3
 kindNumber ExternalAbort = 4
 kindNumber Alignment = 5
 
-unfoldable pub kindOf : ℕ → FaultKind
-kindOf n = getD (AddressSize ∷ Translation ∷ AccessFlag ∷ Permission ∷ ExternalAbort ∷ []) n Alignment
+unfoldable pub kindNumbered : ℕ → FaultKind
+kindNumbered n = getD (AddressSize ∷ Translation ∷ AccessFlag ∷ Permission ∷ ExternalAbort ∷ []) n Alignment
 
 -- the number of a leaf, next to those of the fault kinds
 abbrev pub leafNumber : ℕ

@@ -5,7 +5,7 @@ ghost use Rattle.vmsa.specs.Limits.{addressLimit, tszLeast, tszMost, Sized};
 ghost use Rattle.geometry.specs.Geometry.{levelOf, Paged};
 ghost use Rattle.lookup.specs.Trace.{fault, ended, shown};
 ghost use Rattle.lookup.specs.Steps.{invalid as invalidAt, isTable, addressIn, decoded, Sound, fetched, context, entryAt, followed, descend, upper as upperAt, rangeOf, outside as outsideAt, locate as locateAt};
-ghost use Rattle.lookup.specs.Packing.{kindNumber, kindOf, joined, packed, Packs};
+ghost use Rattle.lookup.specs.Packing.{kindNumber, kindNumbered, joined, packed, Packs};
 use vmsa::FaultKind;
 use vmsa::Leaf;
 use vmsa::PhysAddr;
@@ -85,8 +85,8 @@ fn kind_number(kind: FaultKind) -> u64
 }
 
 // The fault kind of a number.
-fn kind_of(number: u64) -> FaultKind
-    ensures { λ r. ⌜ r ≡ kindOf number ⌝ }
+fn kind_numbered(number: u64) -> FaultKind
+    ensures { λ r. ⌜ r ≡ kindNumbered number ⌝ }
 {
     match number {
         0 => FaultKind::AddressSize,
@@ -232,7 +232,7 @@ fn unpack(pool: &[u8], base: PhysAddr, n: u64) -> Located
     let end = n / READS / LEVELS;
     let number = end % ENDINGS;
     if number != LEAF {
-        return failed(kind_of(number), level, reads);
+        return failed(kind_numbered(number), level, reads);
     }
     let address = end / ENDINGS;
     Located {

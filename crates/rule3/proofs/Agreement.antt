@@ -24,9 +24,9 @@ use Rattle.lookup.proofs.Decoding.{cut-same}
 use Rattle.permission.specs.Permission.{attributeOf, writable, clean, user, mayRead, mayWrite, mayFetch, permitted, flagFails, alignmentFails, permissionFails}
 use Rattle.decision.specs.Decision.{Decision, flagDue, dirtyDue, updated, cacheable, outputOf, failing, passing, decision}
 use Rattle.rules.proofs.Updates.{updated-none, updated-af}
-use Rattle.session.specs.Replies.{updates}
-use Rattle.session.specs.Model.{revalued}
-use Rattle.session.specs.Ours.{judged, accessedIn, stamped}
+use Rattle.tlb.specs.Replies.{updates}
+use Rattle.tlb.specs.Walker.{revalued}
+use Rattle.tlb.specs.Ours.{judged, accessedIn, stamped}
 
 -- ---- what a leaf answers, by the three tests
 

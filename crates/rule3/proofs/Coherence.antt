@@ -22,12 +22,13 @@ use Rattle.vmsa.specs.declared.Leaf.{Leaf}
 use Rattle.vmsa.specs.declared.Refusal.{Refusal}
 use Rattle.checks.specs.declared.Checked.{Checked}
 use Rattle.checks.specs.declared.Checked.the-variants.{Accepted, Refused}
-use Rattle.session.specs.Replies.{Reply, done, refused, answered, uncounted, updates, dirties}
-use Rattle.session.specs.Model.{Walker, Spot, lost, found, Walked, andThen, Entry, empty, holds, entryCount, noEntries, entryOf, heldIn, held, keep, revalued, put, landed, walkFrom, walked}
-use Rattle.session.specs.Model.{Session, fresh, Stepped, refuse, noRegime, Call, setRegime, access, store, dropAll, setBy, setCall, dropCall, storeBy, storeIn, storeCall, learn, recall, accessHeld, accessBy, accessIn, accessCall, call}
-use Rattle.rule3.specs.Events.{Event, World, start, after, next, run, regimeOf, empties, asksDrop, settled, Moment, counted, anyCount, momentIn, momentOf, orEarlier, latest}
-use Rattle.rule3.specs.Rule3.{Told, plainly, Unrefused, Stored, StoredIn, Alike, AccessIn, Kept, Every, Plainly, Recalled, Remembers, Rule3}
-use Rattle.rule3.specs.Lawful.{unlessRefused, restamped, Sound, Lawful}
+use Rattle.tlb.specs.Replies.{Reply, done, refused, answered, Told, told, uncounted, updates, dirties}
+use Rattle.tlb.specs.Walker.{Walker, Spot, lost, found, andThen, noRegime, Entry, empty, holds, entryCount, entryOf, heldIn, revalued, Walked, putWord, landed, walkFrom, walked, recall, accessHeld, accessBy}
+use Rattle.session.specs.Model.{noEntries, held, keep, Session, fresh, Stepped, stay, refusal as refusing, Call, setRegime, access, store, dropAll, setBy, setCall, dropCall, storeBy, storeIn, storeCall, learn, accessWith, accessCall, call}
+use Rattle.calls.specs.Chains.{Event, event}
+use Rattle.rule3.specs.Events.{World, start, after, next, run, lastRegime, empties, asksDrop, settled, Moment, counted, anyCount, momentIn, momentOf, orEarlier, latest}
+use Rattle.rule3.specs.Rule3.{plainly, Unrefused, Stored, StoredIn, Alike, AccessIn, Kept, Every, Plainly, Recalled, Remembers, Rule3}
+use Rattle.rule3.specs.Lawful.{unlessRefused, restamped, Admitted, Lawful}
 
 keep-length : (entries : List Entry) (p : ℕ) (k : Option Leaf) → length (keep entries p k) ≡ length entries
 keep-length entries p none = refl
@@ -52,8 +53,8 @@ held-by (holds p′ x) p h q = go (eqb p′ p) refl q
     go true e k = ap₂ (λ (n : ℕ) (l : Leaf). holds n l) (eqb-true p′ p e) (Option·some-injective x h k)
     go false e k = cc
 
-abbrev toldOf : Walked → Told
-toldOf w = record { reply = w .reply; memory = w .memory }
+abbrev toldOf : Walked → Told Reply
+toldOf w = told (w .reply) (w .memory)
 
 -- the page of an earlier access
 abbrev pageAt : Option Moment → Option ℕ
@@ -65,26 +66,26 @@ module _ (W : Walker) (L : Lawful W) where
 
   -- ---- a descriptor put into the memory
 
-  put-eq : (R : Regime) (m : List ℕ) (at v : ℕ) → put W R m at v ≡ take at m ++ word R v ++ drop (at + 8) m
-  unfolding put
+  put-eq : (R : Regime) (m : List ℕ) (at v : ℕ) → putWord W R m at v ≡ take at m ++ word R v ++ drop (at + 8) m
+  unfolding putWord
   put-eq R m at v = ap (λ (n : ℕ). take at m ++ word R v ++ drop (at + n) m) (L .word-length R v)
 
-  put-length : (R : Regime) (m : List ℕ) (at v : ℕ) → at + 8 ≤ length m → length (put W R m at v) ≡ length m
+  put-length : (R : Regime) (m : List ℕ) (at v : ℕ) → at + 8 ≤ length m → length (putWord W R m at v) ≡ length m
   put-length R m at v h =
       ap length (put-eq R m at v) ∙ length-append (take at m ++ word R v) (drop (at + 8) m)
       ∙ rw (length-append (take at m) (word R v), length-take-le at m (let k : at ≤ length m = omega arith in k), L .word-length R v, length-drop (at + 8) m) (omega arith)
 
-  put-bytes : (R : Regime) (m : List ℕ) (at v : ℕ) → Bytes m → Bytes (put W R m at v)
-  unfolding put
+  put-bytes : (R : Regime) (m : List ℕ) (at v : ℕ) → Bytes m → Bytes (putWord W R m at v)
+  unfolding putWord
   put-bytes R m at v h =
       bytes-append (take at m ++ word R v) (drop (at + length (word R v)) m) (bytes-append (take at m) (word R v) (bytes-take m at h) (L .word-bytes R v))
       (bytes-drop m (at + length (word R v)) h)
 
-  if-bytes : (b : Bool) (R : Regime) (m : List ℕ) (at v : ℕ) → Bytes m → Bytes (pick b (put W R m at v) m)
+  if-bytes : (b : Bool) (R : Regime) (m : List ℕ) (at v : ℕ) → Bytes m → Bytes (pick b (putWord W R m at v) m)
   if-bytes true R m at v h = put-bytes R m at v h
   if-bytes false R m at v h = h
 
-  if-length : (b : Bool) (R : Regime) (m : List ℕ) (at v : ℕ) → at + 8 ≤ length m → length (pick b (put W R m at v) m) ≡ length m
+  if-length : (b : Bool) (R : Regime) (m : List ℕ) (at v : ℕ) → at + 8 ≤ length m → length (pick b (putWord W R m at v) m) ≡ length m
   if-length true R m at v h = put-length R m at v h
   if-length false R m at v h = refl
 
@@ -121,22 +122,22 @@ module _ (W : Walker) (L : Lawful W) where
 
   pub record Inv (s : Session) (m : List ℕ) (past : List Event) : Type 0 where
     sized : length (s .entries) ≡ entryCount
-    known : s .regime ≡ regimeOf past
-    valid : (R : Regime) → regimeOf past ≡ some R → settingCheck R ≡ Accepted
-    matches : (i : ℕ) → i < entryCount → Matches (length m) (regimeOf past) (getD (s .entries) i empty) (latest W counted past i)
+    known : s .regime ≡ lastRegime past
+    valid : (R : Regime) → lastRegime past ≡ some R → settingCheck R ≡ Accepted
+    matches : (i : ℕ) → i < entryCount → Matches (length m) (lastRegime past) (getD (s .entries) i empty) (latest W counted past i)
     last : (i : ℕ) → i < entryCount → pageAt (latest W anyCount past i) ≡ pageAt (latest W counted past i)
     fresh-in : settled past ≡ true → (i : ℕ) → i < entryCount → FreshEntry m (getD (s .entries) i empty) (latest W counted past i)
     bytes : Bytes m
     every : Every W past
 
   abbrev pub Then : List ℕ → List Event → Call → Stepped → Type 0
-  Then m past c r = Inv (r .session) (r .memory) (record { made = c; reply = r .reply; found = m; left = r .memory } ∷ past)
+  Then m past c r = Inv (r .session) (r .memory) (event c m r ∷ past)
 
   -- ---- one call
 
   -- a call that keeps regime and entries, and that the events do not name
   carry : {s : Session} {m m′ : List ℕ} {past : List Event} (e : Event) → Inv s m past
-      → regimeOf (e ∷ past) ≡ regimeOf past
+      → lastRegime (e ∷ past) ≡ lastRegime past
       → ((i : ℕ) → latest W counted (e ∷ past) i ≡ latest W counted past i)
       → ((i : ℕ) → i < entryCount → pageAt (latest W anyCount (e ∷ past) i) ≡ pageAt (latest W counted past i))
       → length m′ ≡ length m
@@ -159,7 +160,7 @@ module _ (W : Walker) (L : Lawful W) where
 
   -- a call that empties all entries
   emptied : {m : List ℕ} {past : List Event} (o : Option Regime) (e : Event) → Bytes m → Every W past
-      → o ≡ regimeOf (e ∷ past)
+      → o ≡ lastRegime (e ∷ past)
       → ((R : Regime) → o ≡ some R → settingCheck R ≡ Accepted)
       → ((i : ℕ) → latest W counted (e ∷ past) i ≡ none)
       → ((i : ℕ) → latest W anyCount (e ∷ past) i ≡ none)
@@ -171,7 +172,7 @@ module _ (W : Walker) (L : Lawful W) where
         known = hr;
         valid = λ R q. hv R (hr ∙ q);
         matches = λ i lt.
-            subst₂ (λ (pl : Entry) (t : Option Moment). Matches (length m) (regimeOf (e ∷ past)) pl t)
+            subst₂ (λ (pl : Entry) (t : Option Moment). Matches (length m) (lastRegime (e ∷ past)) pl t)
             (sym (getD-replicate entryCount i empty empty lt)) (sym (hc i)) tt;
         last = λ i lt. ap pageAt (ha i ∙ sym (hc i));
         fresh-in = λ st i lt. subst⁻¹ (λ (pl : Entry). FreshEntry m pl (latest W counted (e ∷ past) i)) (getD-replicate entryCount i empty empty lt) tt;
@@ -199,33 +200,33 @@ module _ (W : Walker) (L : Lawful W) where
     step-store : (A v : ℕ) → Then m past (store A v) (storeCall W s m A v)
     step-store A v = go (s .regime) refl
       where
-        refusal : (k : ℕ) → Then m past (store A v) (refuse s m k)
+        refusal : (k : ℕ) → Then m past (store A v) (stay s (refusing m k))
         refusal k =
             carry (record { made = store A v; reply = refused k; found = m; left = m }) I refl (λ i. refl) (I .last) refl (I .bytes) (I .fresh-in) refl
 
         at : (R : Regime) → s .regime ≡ some R → (y : Checked) → andThen (memoryCheck R (length m)) (storeCheck R A) ≡ y
-            → Then m past (store A v) (storeBy W s m R A v y)
+            → Then m past (store A v) (stay s (storeBy W R m A v y))
         at R q (Refused x) e = refusal (numberOf x)
         at R q Accepted e =
             let b = both (memoryCheck R (length m)) (storeCheck R A) e in
             let h : offset R A + 8 ≤ length m = L .room R (length m) A (b .0) (b .1) in
-            carry (record { made = store A v; reply = done; found = m; left = put W R m (offset R A) v }) I refl (λ i. refl) (I .last)
+            carry (record { made = store A v; reply = done; found = m; left = putWord W R m (offset R A) v }) I refl (λ i. refl) (I .last)
             (put-length R m (offset R A) v h) (put-bytes R m (offset R A) v (I .bytes)) (λ st. absurd (false≢true st))
-            (subst (λ (o : Option Regime). StoredIn W o A v m (put W R m (offset R A) v)) (sym q ∙ I .known)
+            (subst (λ (o : Option Regime). StoredIn W o A v m (putWord W R m (offset R A) v)) (sym q ∙ I .known)
             (record { room = h; bytes = put-eq R m (offset R A) v }))
 
-        go : (x : Option Regime) → s .regime ≡ x → Then m past (store A v) (storeIn W s m A v x)
+        go : (x : Option Regime) → s .regime ≡ x → Then m past (store A v) (stay s (storeIn W x m A v))
         go none q = refusal noRegime
         go (some R) q = at R q (andThen (memoryCheck R (length m)) (storeCheck R A)) refl
 
     -- ---- an access
 
     module _ (a : Access) where
-      refusal : (k : ℕ) → AccessIn W (regimeOf past) (settled past) a (refused k) m m → Then m past (access a) (refuse s m k)
+      refusal : (k : ℕ) → AccessIn W (lastRegime past) (settled past) a (refused k) m m → Then m past (access a) (stay s (refusing m k))
       refusal k h =
           carry (record { made = access a; reply = refused k; found = m; left = m }) I refl (λ i. refl) (I .last) refl (I .bytes) (I .fresh-in) (refl, h)
 
-      module _ (R : Regime) (q : regimeOf past ≡ some R) where
+      module _ (R : Regime) (q : lastRegime past ≡ some R) where
         -- the plain walk, once the regime was accepted
         plain-is : (m′ : List ℕ) (y : Checked) → andThen (memoryCheck R (length m′)) (accessCheck a) ≡ y
             → plainly W R m′ a ≡ unlessRefused y m′ (walked W R m′ a)
@@ -234,11 +235,11 @@ module _ (W : Walker) (L : Lawful W) where
             ∙ ap (λ (x : Checked). unlessRefused (andThen (memoryCheck R (length m′)) (andThen x (accessCheck a))) m′ (walked W R m′ a)) (I .valid R q)
             ∙ ap (λ (x : Checked). unlessRefused x m′ (walked W R m′ a)) e
 
-        alike : (w : Told) (r : Reply) (left : List ℕ) → plainly W R m a ≡ w → uncounted r ≡ uncounted (w .reply) → left ≡ w .memory
-            → AccessIn W (regimeOf past) (settled past) a r m left
+        alike : (w : Told Reply) (r : Reply) (left : List ℕ) → plainly W R m a ≡ w → uncounted r ≡ uncounted (w .reply) → left ≡ w .memory
+            → AccessIn W (lastRegime past) (settled past) a r m left
         alike w r left e hr hm =
             subst⁻¹ (λ (o : Option Regime). AccessIn W o (settled past) a r m left) q
-            (λ st. record { same = hr ∙ sym (ap (λ (x : Told). uncounted (x .reply)) e); bytes = hm ∙ sym (ap (λ (x : Told). x .memory) e) })
+            (λ st. record { same = hr ∙ sym (ap (λ (x : Told Reply). uncounted (x .reply)) e); bytes = hm ∙ sym (ap (λ (x : Told Reply). x .memory) e) })
 
         abbrev seen : Result → ℕ → List ℕ → Event
         seen x k left = record { made = access a; reply = answered x k; found = m; left = left }
@@ -247,12 +248,12 @@ module _ (W : Walker) (L : Lawful W) where
             → latest W ok (seen x k left ∷ past) i
             ≡ pick (eqb (entryOf (page R a)) i) (some (record { regime = R; page = page R a; left = left })) (latest W ok past i)
         named ok x k left h i =
-            ap (λ (b : Bool). orEarlier i (pick b (momentIn W (regimeOf past) a left) none) (latest W ok past i)) h
+            ap (λ (b : Bool). orEarlier i (pick b (momentIn W (lastRegime past) a left) none) (latest W ok past i)) h
             ∙ ap (λ (z : Option Regime). orEarlier i (momentIn W z a left) (latest W ok past i)) q
 
         unnamed : (ok : ℕ → Bool) (x : Result) (k : ℕ) (left : List ℕ) → (cacheableIn x && ok k) ≡ false → (i : ℕ)
             → latest W ok (seen x k left ∷ past) i ≡ latest W ok past i
-        unnamed ok x k left h i = ap (λ (b : Bool). orEarlier i (pick b (momentIn W (regimeOf past) a left) none) (latest W ok past i)) h
+        unnamed ok x k left h i = ap (λ (b : Bool). orEarlier i (pick b (momentIn W (lastRegime past) a left) none) (latest W ok past i)) h
 
         -- a leaf that was reached: what the marks do to the other entries
         module _ (at : ℕ) (u : Leaf) (n : ℕ) (e : locate R m (page R a) ≡ found at u n)
@@ -261,12 +262,12 @@ module _ (W : Walker) (L : Lawful W) where
           o = judge R u a
 
           abbrev m′ : List ℕ
-          m′ = pick (updates o) (put W R m at (stamp o (u .value))) m
+          m′ = pick (updates o) (putWord W R m at (stamp o (u .value))) m
 
           abbrev h′ : Leaf
           h′ = revalued u (stamp o (u .value))
 
-          sound : Sound W R m
+          sound : Admitted W R m
           sound = record { pool = both (memoryCheck R (length m)) (accessCheck a) y .0; regime = I .valid R q; bytes = I .bytes }
 
           room : at + 8 ≤ length m
@@ -279,7 +280,7 @@ module _ (W : Walker) (L : Lawful W) where
           stays : locate R m′ (page R a) ≡ found at h′ n
           stays = go (updates o) refl
             where
-              go : (b : Bool) → updates o ≡ b → locate R (pick b (put W R m at (stamp o (u .value))) m) (page R a) ≡ found at h′ n
+              go : (b : Bool) → updates o ≡ b → locate R (pick b (putWord W R m at (stamp o (u .value))) m) (page R a) ≡ found at h′ n
               go true hb =
                   L .marks R m sound (page R a) a e hb (page R a) ∙ ap (restamped at (stamp o (u .value))) e
                   ∙ ap (λ (b : Bool). found at (pick b h′ u) n) (eq-eqb at at refl)
@@ -288,7 +289,7 @@ module _ (W : Walker) (L : Lawful W) where
           fresh-on : (p : ℕ) (h : Leaf) → Freshly R m p h → Freshly R m′ p h
           fresh-on p h f = go (updates o) refl
             where
-              go₂ : updates o ≡ true → (b : Bool) → eqb (f .at) at ≡ b → Freshly R (put W R m at (stamp o (u .value))) p h
+              go₂ : updates o ≡ true → (b : Bool) → eqb (f .at) at ≡ b → Freshly R (putWord W R m at (stamp o (u .value))) p h
               go₂ hb true k =
                   let same : f .at ≡ at = eqb-true (f .at) at k in
                   let lv : u .value ≡ f .leaf .value = L .one R m (page R a) p e (f .here ∙ ap (λ (x : ℕ). found x (f .leaf) (f .count)) same) in
@@ -312,11 +313,11 @@ module _ (W : Walker) (L : Lawful W) where
                     agree = f .agree;
                   }
 
-              go : (b : Bool) → updates o ≡ b → Freshly R (pick b (put W R m at (stamp o (u .value))) m) p h
+              go : (b : Bool) → updates o ≡ b → Freshly R (pick b (putWord W R m at (stamp o (u .value))) m) p h
               go true hb = go₂ hb (eqb (f .at) at) refl
               go false hb = f
 
-          fresh-place : (pl : Entry) (t : Option Moment) → Matches (length m) (regimeOf past) pl t → FreshEntry m pl t → FreshEntry m′ pl t
+          fresh-place : (pl : Entry) (t : Option Moment) → Matches (length m) (lastRegime past) pl t → FreshEntry m pl t → FreshEntry m′ pl t
           fresh-place empty t M f = tt
           fresh-place (holds p h) none M f = tt
           fresh-place (holds p h) (some t) M f =
@@ -360,14 +361,14 @@ module _ (W : Walker) (L : Lawful W) where
               c₂ = ap (λ (x : Bool). x && true) hb
 
               match : (i : ℕ) → i < entryCount → (b : Bool) → eqb (entryOf (page R a)) i ≡ b
-                  → Matches (length m′) (regimeOf past) (getD pl′ i empty) (latest W counted (seen o n m′ ∷ past) i)
+                  → Matches (length m′) (lastRegime past) (getD pl′ i empty) (latest W counted (seen o n m′ ∷ past) i)
               match i lt true k =
-                  subst₂ (λ (pl : Entry) (t : Option Moment). Matches (length m′) (regimeOf past) pl t)
+                  subst₂ (λ (pl : Entry) (t : Option Moment). Matches (length m′) (lastRegime past) pl t)
                   (sym (ap (λ (j : ℕ). getD pl′ j empty) (sym (eqb-true (entryOf (page R a)) i k)) ∙ pl′-same))
                   (sym (named counted o n m′ c₁ i ∙ ap (λ (b : Bool). pick b (some t′) (latest W counted past i)) k))
                   (record { page-eq = refl; regime-eq = q; size = refl; at = at; count = n; here = stays })
               match i lt false k =
-                  subst₃ (λ (z : ℕ) (pl : Entry) (t : Option Moment). Matches z (regimeOf past) pl t)
+                  subst₃ (λ (z : ℕ) (pl : Entry) (t : Option Moment). Matches z (lastRegime past) pl t)
                   (sym (if-length (updates o) R m at (stamp o (u .value)) room)) (sym (pl′-other i k))
                   (sym (named counted o n m′ c₁ i ∙ ap (λ (b : Bool). pick b (some t′) (latest W counted past i)) k)) (I .matches i lt)
 
@@ -426,7 +427,7 @@ module _ (W : Walker) (L : Lawful W) where
                 )
             go (found at u n) e = reached at u n e y (plain-is m Accepted y)
 
-        page-at : (pl : Entry) (t : Option Moment) (p : ℕ) (h : Leaf) → Matches (length m) (regimeOf past) pl t → pl ≡ holds p h
+        page-at : (pl : Entry) (t : Option Moment) (p : ℕ) (h : Leaf) → Matches (length m) (lastRegime past) pl t → pl ≡ holds p h
             → some p ≡ pageAt t
         page-at empty none p h M z = cc
         page-at empty (some t) p h M z = absurd M
@@ -434,7 +435,7 @@ module _ (W : Walker) (L : Lawful W) where
         page-at (holds p′ x) (some t) p h M z = let e = M .page-eq in cc
 
         -- a held leaf that is fresh, under the regime last accepted
-        fresh-held : (pl : Entry) (t : Option Moment) (p : ℕ) (h : Leaf) → Matches (length m) (regimeOf past) pl t → FreshEntry m pl t → pl ≡ holds p h → Freshly R m p h
+        fresh-held : (pl : Entry) (t : Option Moment) (p : ℕ) (h : Leaf) → Matches (length m) (lastRegime past) pl t → FreshEntry m pl t → pl ≡ holds p h → Freshly R m p h
         fresh-held empty t p h M f z = absurd (let y : _≡_ {A = ℕ} 0 1 = cc in omega arith)
         fresh-held (holds p′ x) none p h M f z = absurd M
         fresh-held (holds p′ x) (some t) p h M f z =
@@ -485,38 +486,38 @@ module _ (W : Walker) (L : Lawful W) where
                 ∙ ap (λ (o : Result). toldOf (landed W R m (f .at) (f .leaf) (f .count) o)) (L .agree-same R h (f .leaf) a (f .agree) hd)
                 in
                 record {
-                  same = sym (ap (λ (w : Told). uncounted (w .reply)) e);
+                  same = sym (ap (λ (w : Told Reply). uncounted (w .reply)) e);
                   bytes =
-                      sym (ap (λ (w : Told). w .memory) e
-                      ∙ ap (λ (b : Bool). pick b (put W R m (f .at) (stamp x (f .leaf .value))) m) (L .agree-still R h (f .leaf) a (f .agree) hd));
+                      sym (ap (λ (w : Told Reply). w .memory) e
+                      ∙ ap (λ (b : Bool). pick b (putWord W R m (f .at) (stamp x (f .leaf .value))) m) (L .agree-still R h (f .leaf) a (f .agree) hd));
                 }
 
-            good : AccessIn W (regimeOf past) (settled past) a (answered x 0) m m
+            good : AccessIn W (lastRegime past) (settled past) a (answered x 0) m m
             good =
                 subst⁻¹ (λ (z : Option Regime). AccessIn W z (settled past) a (answered x 0) m m) q
                 (λ st. same (fresh-held (getD (s .entries) (entryOf (page R a)) empty) (latest W counted past (entryOf (page R a))) (page R a) h
                 (I .matches (entryOf (page R a)) (entry-lt (page R a))) (I .fresh-in st (entryOf (page R a)) (entry-lt (page R a))) is))
 
-        unrefused : andThen (memoryCheck R (length m)) (accessCheck a) ≡ Accepted → Then m past (access a) (accessHeld W s m R a (held (s .entries) (page R a)))
+        unrefused : andThen (memoryCheck R (length m)) (accessCheck a) ≡ Accepted → Then m past (access a) (learn W s (page R a) (accessHeld W R m a (held (s .entries) (page R a))))
         unrefused y = go (held (s .entries) (page R a)) refl
           where
             go₂ : (h : Leaf) → held (s .entries) (page R a) ≡ some h → (b : Bool) → dirtiedIn (judge R h a) ≡ b
-                → Then m past (access a) (pick b (learn W s (page R a) (walked W R m a)) (record { session = s; memory = m; reply = answered (judge R h a) 0 }))
+                → Then m past (access a) (learn W s (page R a) (pick b (walked W R m a) (record { reply = answered (judge R h a) 0; memory = m; kept = none })))
             go₂ h hh true hd = walks y
             go₂ h hh false hd = hit y h hh hd
 
-            go : (x : Option Leaf) → held (s .entries) (page R a) ≡ x → Then m past (access a) (accessHeld W s m R a x)
+            go : (x : Option Leaf) → held (s .entries) (page R a) ≡ x → Then m past (access a) (learn W s (page R a) (accessHeld W R m a x))
             go none hh = walks y
             go (some h) hh = go₂ h hh (dirtiedIn (judge R h a)) refl
 
-        ruled : (y : Checked) → andThen (memoryCheck R (length m)) (accessCheck a) ≡ y → Then m past (access a) (accessBy W s m R a y)
+        ruled : (y : Checked) → andThen (memoryCheck R (length m)) (accessCheck a) ≡ y → Then m past (access a) (learn W s (page R a) (accessBy W R m a (held (s .entries) (page R a)) y))
         ruled Accepted y = unrefused y
         ruled (Refused k) y = refusal (numberOf k) (alike (unlessRefused (Refused k) m (walked W R m a)) (refused (numberOf k)) m (plain-is m (Refused k) y) refl refl)
 
     step-access : (a : Access) → Then m past (access a) (accessCall W s m a)
     step-access a = go (s .regime) refl
       where
-        go : (x : Option Regime) → s .regime ≡ x → Then m past (access a) (accessIn W s m a x)
+        go : (x : Option Regime) → s .regime ≡ x → Then m past (access a) (accessWith W s m a x)
         go none z = refusal a noRegime (subst⁻¹ (λ (o : Option Regime). AccessIn W o (settled past) a (refused noRegime) m m) (sym (I .known) ∙ z) refl)
         go (some R) z = ruled a R (sym (I .known) ∙ z) (andThen (memoryCheck R (length m)) (accessCheck a)) refl
 
@@ -528,14 +529,14 @@ module _ (W : Walker) (L : Lawful W) where
 
     -- ---- after the list: a new access, over any bytes of the same length
 
-    module _ (a : Access) (R : Regime) (q : regimeOf past ≡ some R) (m₁ : List ℕ) (size : length m₁ ≡ length m) where
+    module _ (a : Access) (R : Regime) (q : lastRegime past ≡ some R) (m₁ : List ℕ) (size : length m₁ ≡ length m) where
       abbrev p : ℕ
       p = page R a
 
       plain-told : (y : Checked) → andThen (memoryCheck R (length m₁)) (accessCheck a) ≡ y
           → Plainly W R m₁ a (unlessRefused y m₁ (walked W R m₁ a) .reply) (unlessRefused y m₁ (walked W R m₁ a) .memory)
       plain-told y e =
-          record { same = sym (ap (λ (w : Told). w .reply) (plain-is a R q m₁ y e)); bytes = sym (ap (λ (w : Told). w .memory) (plain-is a R q m₁ y e)) }
+          record { same = sym (ap (λ (w : Told Reply). w .reply) (plain-is a R q m₁ y e)); bytes = sym (ap (λ (w : Told Reply). w .memory) (plain-is a R q m₁ y e)) }
 
       -- what the entry's moment says of the new access: of its own page, or of another
       record Spoken (t : Moment) (reply : Reply) (left : List ℕ) : Type 0 where
@@ -546,7 +547,7 @@ module _ (W : Walker) (L : Lawful W) where
       SpokenIn none reply left = Plainly W R m₁ a reply left
       SpokenIn (some t) reply left = Spoken t reply left
 
-      module _ (p′ : ℕ) (h : Leaf) (t : Moment) (M : Recorded (length m) (regimeOf past) p′ h t) where
+      module _ (p′ : ℕ) (h : Leaf) (t : Moment) (M : Recorded (length m) (lastRegime past) p′ h t) where
         -- what the plain walk gave the access over the memory of then
         then-is : t .page ≡ p → (y : Checked) → andThen (memoryCheck R (length m₁)) (accessCheck a) ≡ y
             → plainly W (t .regime) (t .left) a ≡ unlessRefused y (t .left) (landed W R (t .left) (M .at) h (M .count) (judge R h a))
@@ -563,7 +564,7 @@ module _ (W : Walker) (L : Lawful W) where
         spoken-refused x e =
             record {
               own = λ hp. record {
-                one = λ hd. sym (ap (λ (w : Told). uncounted (w .reply)) (then-is hp (Refused x) e));
+                one = λ hd. sym (ap (λ (w : Told Reply). uncounted (w .reply)) (then-is hp (Refused x) e));
                 still = λ hd. refl;
                 again = λ hd. plain-told (Refused x) e;
               };
@@ -575,39 +576,39 @@ module _ (W : Walker) (L : Lawful W) where
         spoken-other ne e = record { own = λ hp. absurd (ne (sym (M .page-eq) ∙ hp)); other = λ hp. plain-told Accepted e }
 
         spoken-own : p′ ≡ p → andThen (memoryCheck R (length m₁)) (accessCheck a) ≡ Accepted → (b : Bool) → dirtiedIn (judge R h a) ≡ b
-            → (r : Stepped) → r ≡ pick b (learn W s p (walked W R m₁ a)) (record { session = s; memory = m₁; reply = answered (judge R h a) 0 })
+            → (r : Walked) → r ≡ pick b (walked W R m₁ a) (record { reply = answered (judge R h a) 0; memory = m₁; kept = none })
             → Spoken t (r .reply) (r .memory)
         spoken-own hp′ e true hd r hr =
             let z : Plainly W R m₁ a (r .reply) (r .memory) =
-            subst⁻¹ (λ (x : Stepped). Plainly W R m₁ a (x .reply) (x .memory)) hr (plain-told Accepted e)
+            subst⁻¹ (λ (x : Walked). Plainly W R m₁ a (x .reply) (x .memory)) hr (plain-told Accepted e)
             in
             let no : t .page ≡ p → dirties (plainly W (t .regime) (t .left) a .reply) ≡ false → ⊥ =
-            λ hp k. true≢false (sym hd ∙ sym (ap (λ (w : Told). dirties (w .reply)) (then-is hp Accepted e)) ∙ k)
+            λ hp k. true≢false (sym hd ∙ sym (ap (λ (w : Told Reply). dirties (w .reply)) (then-is hp Accepted e)) ∙ k)
             in
             record { own = λ hp. record { one = λ k. absurd (no hp k); still = λ k. absurd (no hp k); again = λ k. z }; other = λ hp. z }
         spoken-own hp′ e false hd r hr =
             record {
               own = λ hp. record {
-                one = λ k. ap (λ (x : Stepped). x .reply) hr ∙ sym (ap (λ (w : Told). uncounted (w .reply)) (then-is hp Accepted e));
-                still = λ k. ap (λ (x : Stepped). x .memory) hr;
-                again = λ k. absurd (false≢true (sym hd ∙ sym (ap (λ (w : Told). dirties (w .reply)) (then-is hp Accepted e)) ∙ k));
+                one = λ k. ap (λ (x : Walked). x .reply) hr ∙ sym (ap (λ (w : Told Reply). uncounted (w .reply)) (then-is hp Accepted e));
+                still = λ k. ap (λ (x : Walked). x .memory) hr;
+                again = λ k. absurd (false≢true (sym hd ∙ sym (ap (λ (w : Told Reply). dirties (w .reply)) (then-is hp Accepted e)) ∙ k));
               };
               other = λ hp. absurd (hp (M .page-eq ∙ hp′));
             }
 
         spoken-held : andThen (memoryCheck R (length m₁)) (accessCheck a) ≡ Accepted → (b : Bool) → eqb p′ p ≡ b
-            → Spoken t (accessHeld W s m₁ R a (pick b (some h) none) .reply) (accessHeld W s m₁ R a (pick b (some h) none) .memory)
-        spoken-held e true k = spoken-own (eqb-true p′ p k) e (dirtiedIn (judge R h a)) refl (recall W s m₁ R a (judge R h a)) refl
+            → Spoken t (accessHeld W R m₁ a (pick b (some h) none) .reply) (accessHeld W R m₁ a (pick b (some h) none) .memory)
+        spoken-held e true k = spoken-own (eqb-true p′ p k) e (dirtiedIn (judge R h a)) refl (recall W R m₁ a (judge R h a)) refl
         spoken-held e false k = spoken-other (eqb-false p′ p k) e
 
-      spoken-by : (pl : Entry) (t : Option Moment) → Matches (length m) (regimeOf past) pl t → andThen (memoryCheck R (length m₁)) (accessCheck a) ≡ Accepted
-          → SpokenIn t (accessHeld W s m₁ R a (heldIn pl p) .reply) (accessHeld W s m₁ R a (heldIn pl p) .memory)
+      spoken-by : (pl : Entry) (t : Option Moment) → Matches (length m) (lastRegime past) pl t → andThen (memoryCheck R (length m₁)) (accessCheck a) ≡ Accepted
+          → SpokenIn t (accessHeld W R m₁ a (heldIn pl p) .reply) (accessHeld W R m₁ a (heldIn pl p) .memory)
       spoken-by empty none M e = plain-told Accepted e
       spoken-by empty (some t) M e = absurd M
       spoken-by (holds p′ h) none M e = absurd M
       spoken-by (holds p′ h) (some t) M e = spoken-held p′ h t M e (eqb p′ p) refl
 
-      refused-by : (pl : Entry) (t : Option Moment) → Matches (length m) (regimeOf past) pl t → (x : Refusal)
+      refused-by : (pl : Entry) (t : Option Moment) → Matches (length m) (lastRegime past) pl t → (x : Refusal)
           → andThen (memoryCheck R (length m₁)) (accessCheck a) ≡ Refused x → SpokenIn t (refused (numberOf x)) m₁
       refused-by empty none M x e = plain-told (Refused x) e
       refused-by empty (some t) M x e = absurd M
@@ -616,14 +617,14 @@ module _ (W : Walker) (L : Lawful W) where
 
       spoken : SpokenIn (latest W counted past (entryOf p)) (accessCall W s m₁ a .reply) (accessCall W s m₁ a .memory)
       spoken =
-          subst⁻¹ (λ (x : Option Regime). SpokenIn (latest W counted past (entryOf p)) (accessIn W s m₁ a x .reply) (accessIn W s m₁ a x .memory))
+          subst⁻¹ (λ (x : Option Regime). SpokenIn (latest W counted past (entryOf p)) (accessWith W s m₁ a x .reply) (accessWith W s m₁ a x .memory))
           (I .known ∙ q) (go (andThen (memoryCheck R (length m₁)) (accessCheck a)) refl)
         where
-          M : Matches (length m) (regimeOf past) (getD (s .entries) (entryOf p) empty) (latest W counted past (entryOf p))
+          M : Matches (length m) (lastRegime past) (getD (s .entries) (entryOf p) empty) (latest W counted past (entryOf p))
           M = I .matches (entryOf p) (entry-lt p)
 
           go : (y : Checked) → andThen (memoryCheck R (length m₁)) (accessCheck a) ≡ y
-              → SpokenIn (latest W counted past (entryOf p)) (accessBy W s m₁ R a y .reply) (accessBy W s m₁ R a y .memory)
+              → SpokenIn (latest W counted past (entryOf p)) (accessBy W R m₁ a (held (s .entries) p) y .reply) (accessBy W R m₁ a (held (s .entries) p) y .memory)
           go Accepted e = spoken-by (getD (s .entries) (entryOf p) empty) (latest W counted past (entryOf p)) M e
           go (Refused x) e = refused-by (getD (s .entries) (entryOf p) empty) (latest W counted past (entryOf p)) M x e
 
@@ -690,7 +691,7 @@ module _ (W : Walker) (L : Lawful W) where
   holds-on (c ∷ cs) w I = holds-on cs (next W w c) (step (w .session) (w .memory) (w .past) I c)
 
   silent : (R : Regime) (m : List ℕ) (a : Access) → writes (a .kind) ≡ false → dirties (plainly W R m a .reply) ≡ false
-  silent R m a h = ap (λ (w : Told). dirties (w .reply)) (L .plain-walk R m a) ∙ go (andThen (memoryCheck R (length m)) (andThen (settingCheck R) (accessCheck a)))
+  silent R m a h = ap (λ (w : Told Reply). dirties (w .reply)) (L .plain-walk R m a) ∙ go (andThen (memoryCheck R (length m)) (andThen (settingCheck R) (accessCheck a)))
     where
       go₂ : (l : Spot) → dirties (walkFrom W R m a l .reply) ≡ false
       go₂ (lost c l n) = refl

@@ -2,8 +2,8 @@
 use Prim.Native.Nat.{ℕ, _+_, _-_, _≤_}
 use mathlib.Core.Bool.{Bool, true, false}
 use mathlib.Core.List.{List, [], _∷_, _++_}
-use mathlib.Core.Option.{Option}
-use mathlib.Core.Path.{_≡_, refl, sym, ap, ap₂, subst, _∙_}
+use mathlib.Core.Option.{Option, some}
+use mathlib.Core.Path.{_≡_, refl, sym, ap, ap₂, subst⁻¹, _∙_}
 use native.Mathlib.Omega.{arith}
 use lib.ListN.{length}
 use Rattle.descriptor.specs.Bytes.{Bytes}
@@ -17,17 +17,22 @@ use Rattle.checks.specs.declared.Checked.the-variants.{Accepted, Refused}
 use Rattle.checks.specs.Order.{firstOf, memoryRows, settingRows, regimeRows, accessRows, storeRows, walkCheck, sessionStoreCheck}
 use Rattle.walk.specs.Walk.{Outcome, checked, walk}
 use Rattle.walk.proofs.Ends.{ready}
+use Rattle.tlb.specs.Replies.{Reply, Told, told, replyOf}
+use Rattle.tlb.specs.Walker.{andThen, Walked, walked}
+use Rattle.tlb.specs.Ours.{offsetOf, ours}
+use Rattle.tlb.proofs.Walking.{first-append, walked-pool}
 use Rattle.session.specs.declared.Session.{Session as SessionStruct}
-use Rattle.session.specs.Replies.{replyOf}
-use Rattle.session.specs.Model.{Walked, andThen, walked, Session, Stepped, fresh, Call, setRegime, access, store, dropAll, call}
-use Rattle.session.specs.Ours.{offsetOf, ours}
-use Rattle.session.specs.View.{sessionView, stepped}
-use Rattle.session.proofs.Walking.{first-append, walkedPool, walked-pool}
-use Rattle.session.proofs.Calls.{Storable, store-accepted}
-use Rattle.rule3.specs.Events.{Event, World, start, run, isDone, regimeOf, empties, asksDrop, settled, isDrop, dropped}
-use Rattle.rule3.specs.Rule3.{Told, plainly, Rule3}
+use Rattle.session.specs.Model.{Session, Left, Stepped, fresh, Call, setRegime, access, store, dropAll}
+use Rattle.session.specs.View.{sessionView, viewed}
+use Rattle.session.proofs.Calls.{store-accepted, viewed-leaves}
+use Rattle.session.proofs.Promises.{empty-promise}
+use Rattle.calls.specs.Chains.{Event, event, Functions, Chain, none-yet, more, isDone}
+use Rattle.calls.specs.Code.{Begun, Made}
+use Rattle.calls.proofs.Rule1.{Leaving}
+use Rattle.calls.proofs.Lists.{made-leaves}
+use Rattle.rule3.specs.Events.{start, run, lastRegime, empties, asksDrop, settled, isDrop, dropped}
+use Rattle.rule3.specs.Rule3.{plainly, Remembers, Rule3}
 use Rattle.rule3.specs.Lawful.{unlessRefused, Lawful}
-use Rattle.rule3.specs.Code.{Calls, none-yet, more}
 use Rattle.rule3.proofs.Coherence.{Inv, step, begin, claim, rule3}
 use Rattle.rule3.proofs.Agreement.{unmarked, quiet, Agree, agree-self, agree-same, agree-still, agree-mark}
 use Rattle.rule3.proofs.Memory.{reads, one, marks, leaf-room, accepted-usable}
@@ -51,12 +56,12 @@ settings-passed Accepted (Refused k) z q = q
 settings-passed (Refused k) y z q = cc
 
 plain-by : (r : Regime) (m : List ℕ) (a : Access) (c : Checked) → walkCheck (length m) r a ≡ c
-    → _≡_ {A = Told} (record { reply = replyOf (checked r a m c .result); memory = checked r a m c .bytes }) (unlessRefused c m (walked ours r m a))
+    → _≡_ {A = Told Reply} (record { reply = replyOf (checked r a m c .result); memory = checked r a m c .bytes }) (unlessRefused c m (walked ours r m a))
 plain-by r m a (Refused x) e = refl
 plain-by r m a Accepted e =
     let h = ready (length m) r a e in
     let u = accepted-usable r (settings-passed (firstOf (memoryRows (length m) (r .pool))) (firstOf (settingRows r)) (firstOf (accessRows a)) (sym (checks-of r (length m) a) ∙ e)) in
-    sym (ap (λ (w : Walked). record { reply = w .reply; memory = w .memory }) (walked-pool r m a (h .sized) (h .root) (h .fits) u))
+    sym (ap (λ (w : Walked). told (w .reply) (w .memory)) (walked-pool r m a (h .sized) (h .root) (h .fits) u))
 
 plain-walk : (r : Regime) (m : List ℕ) (a : Access)
     → plainly ours r m a ≡ unlessRefused (andThen (firstOf (memoryRows (length m) (r .pool))) (andThen (firstOf (settingRows r)) (firstOf (accessRows a)))) m (walked ours r m a)
@@ -102,18 +107,39 @@ lawful =
 pub rule-3 : (calls : List Call) (memory : List ℕ) → Bytes memory → Rule3 ours (run ours (start memory) calls)
 rule-3 = rule3 ours lawful
 
--- ---- the real functions
+-- ---- functions over a session of the code, from a fresh session over m₀, that leave what `leaves` says
 
-calls-inv : (m₀ : List ℕ) → Bytes m₀ → {s : SessionStruct} {m : List ℕ} {past : List Event} → Calls m₀ s m past → Inv ours lawful (sessionView s) m past
-calls-inv m₀ b (none-yet s e) = subst (λ (x : Session). Inv ours lawful x m₀ []) (sym e) (begin ours lawful m₀ b)
-calls-inv m₀ b (more {s = s} {m = m} {past = past} c after left reply before e) =
-    subst (λ (x : Stepped). Inv ours lawful (x .session) (x .memory) (record { made = c; reply = x .reply; found = m; left = x .memory } ∷ past)) (sym e)
-    (step ours lawful (sessionView s) m past (calls-inv m₀ b before) c)
+module _ (F : Functions SessionStruct) (is : Leaving F) (s₀ : SessionStruct) (fresh-start : sessionView s₀ ≡ fresh) (m₀ : List ℕ) (b : Bytes m₀) where
+  chain-inv : {s : SessionStruct} {m : List ℕ} {past : List Event} → Chain F s₀ m₀ s m past → Inv ours lawful (sessionView s) m past
+  chain-inv none-yet = subst⁻¹ (λ (x : Session). Inv ours lawful x m₀ []) fresh-start (begin ours lawful m₀ b)
+  chain-inv (more {s = s} {m = m} {past = past} {c = c} {x = x} before made) =
+      subst⁻¹ (λ (y : Stepped). Inv ours lawful (y .session) (y .memory) (event c m y ∷ past)) (ap viewed (is s m c x made) ∙ viewed-leaves s m c)
+      (step ours lawful (sessionView s) m past (chain-inv before) c)
 
--- any calls of the real functions, by their contracts, have the property
-pub rule-3-code : (m₀ : List ℕ) → Bytes m₀ → {s : SessionStruct} {m : List ℕ} {past : List Event} → Calls m₀ s m past
+  pub rule-3-of : {s : SessionStruct} {m : List ℕ} {past : List Event} → Chain F s₀ m₀ s m past → Rule3 ours (record { session = sessionView s; memory = m; past = past })
+  rule-3-of {s} {m} {past} chain = claim ours lawful (sessionView s) m past (chain-inv chain)
+
+  -- and a new access by one of the functions, over any bytes of the same length
+  pub rule-3-next-of : {s : SessionStruct} {m : List ℕ} {past : List Event} → Chain F s₀ m₀ s m past → (r : Regime) → lastRegime past ≡ some r
+      → (a : Access) (n : List ℕ) → length n ≡ length m → (x : Left SessionStruct Reply) → F s n (access a) x
+      → Remembers ours (record { session = sessionView s; memory = m; past = past }) r a n (x .reply) (x .memory)
+  rule-3-next-of {s} {m} {past} chain r q a n size x made =
+      subst⁻¹ (λ (y : Left SessionStruct Reply). Remembers ours (record { session = sessionView s; memory = m; past = past }) r a n (y .reply) (y .memory)) (is s n (access a) x made)
+      (rule-3-of chain .remembers r q a n size)
+
+-- ---- the functions of a session, by their own contracts
+
+begun-fresh : (s : SessionStruct) → Begun s → sessionView s ≡ fresh
+begun-fresh s h = ap sessionView (empty-promise s h)
+
+pub rule-3-code : (s₀ : SessionStruct) → Begun s₀ → (m₀ : List ℕ) → Bytes m₀ → {s : SessionStruct} {m : List ℕ} {past : List Event} → Chain Made s₀ m₀ s m past
     → Rule3 ours (record { session = sessionView s; memory = m; past = past })
-rule-3-code m₀ b {s} {m} {past} calls = claim ours lawful (sessionView s) m past (calls-inv m₀ b calls)
+rule-3-code s₀ h m₀ b chain = rule-3-of Made made-leaves s₀ (begun-fresh s₀ h) m₀ b chain
+
+pub rule-3-next : (s₀ : SessionStruct) → Begun s₀ → (m₀ : List ℕ) → Bytes m₀ → {s : SessionStruct} {m : List ℕ} {past : List Event} → Chain Made s₀ m₀ s m past
+    → (r : Regime) → lastRegime past ≡ some r → (a : Access) (n : List ℕ) → length n ≡ length m → (x : Left SessionStruct Reply) → Made s n (access a) x
+    → Remembers ours (record { session = sessionView s; memory = m; past = past }) r a n (x .reply) (x .memory)
+rule-3-next s₀ h m₀ b chain r q a n size x made = rule-3-next-of Made made-leaves s₀ (begun-fresh s₀ h) m₀ b chain r q a n size x made
 
 -- ---- the customer's word "drop": it is one way to be settled
 
@@ -134,4 +160,4 @@ settled-by o e dropAll x y h k = refl
 
 pub drop-settles : (past : List Event) → dropped past ≡ true → settled past ≡ true
 drop-settles [] h = refl
-drop-settles (e ∷ before) h = settled-by (regimeOf before) e (e .made) (dropped before) (settled before) (drop-settles before) h
+drop-settles (e ∷ before) h = settled-by (lastRegime before) e (e .made) (dropped before) (settled before) (drop-settles before) h

@@ -8,7 +8,7 @@ use lib.Dec.{leb, eqb, lit<, lit≤}
 use lib.ListN.{length, take, drop}
 use lib.Pow.{field as field-mod}
 use borrow.Author.Tests.{eqb-true, eqb-false, eq-eqb, ne-eqb, leb-true}
-use Rattle.descriptor.specs.Bytes.{Bytes, desc, put as putDescriptor}
+use Rattle.descriptor.specs.Bytes.{Bytes, desc, put}
 use Rattle.descriptor.specs.Bits.{pick, bit, setBit, clearBit}
 use Rattle.descriptor.proofs.Tests.{clash, and-true, or-false, differ}
 use Rattle.descriptor.proofs.Laws.{length-put, desc-put-aligned}
@@ -34,54 +34,23 @@ use Rattle.lookup.proofs.Decoding.{Alike, decoded-same, aligned8}
 use Rattle.lookup.proofs.Reach.{context-paged, locate-read}
 use Rattle.lookup.proofs.Readers.{AlikeWords, unreachable, values, AlikeEnds, faults, leaves, AlikeTraces, locate-alike}
 use Rattle.decision.specs.Decision.{updated}
-use Rattle.walk.specs.Walk.{poolOf, traced}
+use Rattle.walk.specs.Walk.{poolBytes, traced}
 use Rattle.walk.proofs.Parts.{with-put, part-with, length-part}
 use Rattle.walk.proofs.Ends.{Found, found, aligned-zero}
 use Rattle.rules.proofs.Updates.{updated-small}
-use Rattle.session.specs.Model.{Spot, lost, found as foundAt, revalued, put}
-use Rattle.session.specs.Ours.{usable, offsetOf, spotAt, spotOf, located, accessedIn, stamped, ours}
-use Rattle.session.proofs.Walking.{usable-sized, usable-root, put-is}
-use Rattle.rule3.specs.Lawful.{restamped, Sound}
+use Rattle.tlb.specs.Walker.{Spot, lost, found as foundAt, revalued, putWord}
+use Rattle.tlb.specs.Ours.{usable, offsetOf, spotAt, spotOf, located, accessedIn, stamped, ours}
+use Rattle.tlb.proofs.Walking.{usable-sized, usable-root, put-is}
+use Rattle.tlb.proofs.Found.{Where, where-found, in-the-pool}
+use Rattle.rule3.specs.Lawful.{restamped, Admitted}
 
--- ---- where a leaf is found
-
--- the descriptor's physical address, and the trace that ends there
-pub record Where (r : Regime) (m : List ℕ) (p at : ℕ) (u : Leaf) (n : ℕ) : Type 0 where
-  pub regime : usable r ≡ true
-  pub address : ℕ
-  pub end : traced r (poolOf (r .pool) m) (p * pageSize pageBits) .end ≡ leaf address (u .value) (u .left)
-  pub offset : offsetOf r address ≡ at
-  pub count : length (traced r (poolOf (r .pool) m) (p * pageSize pageBits) .visited) ≡ n
-
-spot-found : (r : Regime) (k : ℕ) (e : End) (at : ℕ) (u : Leaf) (n : ℕ) → spotAt r k e ≡ foundAt at u n
-    → (address : ℕ) × (e ≡ leaf address (u .value) (u .left)) × (offsetOf r address ≡ at) × (k ≡ n)
-spot-found r k (fault kind level) at u n q = clash (cc)
-spot-found r k (leaf a v left) at u n q =
-    let l : _≡_ {A = Leaf} (record { value = v; left = left }) u = cc in
-    (a, ap (λ (x : Leaf). leaf a (x .value) (x .left)) l, cc, cc)
-
-pub where-found : (r : Regime) (m : List ℕ) (p : ℕ) {at : ℕ} {u : Leaf} {n : ℕ} → located r m p ≡ foundAt at u n → Where r m p at u n
-unfolding located
-where-found r m p {at} {u} {n} q = by (usable r) refl q
-  where
-    by : (b : Bool) → usable r ≡ b → pick b (spotOf r (traced r (poolOf (r .pool) m) (p * pageSize pageBits))) (lost (codeOf Translation 0) 0 0) ≡ foundAt at u n → Where r m p at u n
-    by true e q =
-        let t = traced r (poolOf (r .pool) m) (p * pageSize pageBits) in
-        let s = spot-found r (length (t .visited)) (t .end) at u n q in
-        record { regime = e; address = s .0; end = s .1; offset = s .2; count = s .3 }
-    by false e q = clash (cc)
-
--- the leaf lies in the pool
-pub in-the-pool : (r : Regime) (m : List ℕ) (p : ℕ) {at : ℕ} {u : Leaf} {n : ℕ} (w : Where r m p at u n)
-    → Found r (poolOf (r .pool) m) (p * pageSize pageBits) (w .address) (u .value) (u .left)
-in-the-pool r m p {u = u} w =
-    found r (poolOf (r .pool) m) (p * pageSize pageBits) (w .address) (u .value) (u .left) (usable-sized r (w .regime)) (usable-root r (p * pageSize pageBits) (w .regime)) (w .end)
+-- ---- leaves that are found
 
 pub reads : (r : Regime) (m : List ℕ) (p : ℕ) {at : ℕ} {u : Leaf} {n : ℕ} → located r m p ≡ foundAt at u n → 1 ≤ n
 unfolding traced
 reads r m p q =
     let w = where-found r m p q in
-    rw (w .count) at (locate-read r (fetched (poolOf (r .pool) m) (r .pool .address .0)) (p * pageSize pageBits) (w .end))
+    rw (w .count) at (locate-read r (fetched (poolBytes (r .pool) m) (r .pool .address .0)) (p * pageSize pageBits) (w .end))
 
 pub one : (r : Regime) (m : List ℕ) (p q : ℕ) {at : ℕ} {u v : Leaf} {n k : ℕ} → located r m p ≡ foundAt at u n → located r m q ≡ foundAt at v k → u .value ≡ v .value
 one r m p q e f =
@@ -90,7 +59,7 @@ one r m p q e f =
     let a = in-the-pool r m p x .inside in
     let b = in-the-pool r m q y .inside in
     let s : x .address - r .pool .address .0 ≡ y .address - r .pool .address .0 = (let z : offsetOf r (x .address) ≡ offsetOf r (y .address) = x .offset ∙ sym (y .offset) in omega arith) in
-    sym (a .same) ∙ ap (desc (poolOf (r .pool) m)) s ∙ b .same
+    sym (a .same) ∙ ap (desc (poolBytes (r .pool) m)) s ∙ b .same
 
 -- ---- what acceptance gives
 
@@ -103,7 +72,7 @@ accepted-usable r e = let c = clear (settingRows r) e in rw (c .1 .0, c .1 .1 .0
 pub accepted-address : (r : Regime) → firstOf (settingRows r) ≡ Accepted → Addressed (r .pool)
 accepted-address r e = addressed (r .pool) (clear (settingRows r) e .0)
 
-pub leaf-room : (r : Regime) (m : List ℕ) → Sound ours r m → (p : ℕ) {at : ℕ} {u : Leaf} {n : ℕ} → located r m p ≡ foundAt at u n → at + 8 ≤ length m
+pub leaf-room : (r : Regime) (m : List ℕ) → Admitted ours r m → (p : ℕ) {at : ℕ} {u : Leaf} {n : ℕ} → located r m p ≡ foundAt at u n → at + 8 ≤ length m
 leaf-room r m s p q =
     let w = where-found r m p q in
     let i = in-the-pool r m p w .inside in
@@ -145,7 +114,7 @@ alike-self v = record { bit0 = refl; bit1 = refl; address = refl }
 
 module _ (pool : List ℕ) (base i w : ℕ) (b8 : base % 8 ≡ 0) (i8 : i % 8 ≡ 0) (fits : i + 8 ≤ length pool) (small : w < 2 ^ 64) (unseen : Alike (desc pool i) w) where
   after : List ℕ
-  after = putDescriptor pool i w
+  after = put pool i w
 
   value-after : (j : ℕ) → j % 8 ≡ 0 → j + 8 ≤ length pool → desc after j ≡ pick (eqb i j) w (desc pool j)
   unfolding after
@@ -164,7 +133,7 @@ module _ (pool : List ℕ) (base i w : ℕ) (b8 : base % 8 ≡ 0) (i8 : i % 8 �
 
   alike-words : (a : ℕ) → a % 8 ≡ 0 → AlikeWords Alike (fetched pool base a) (fetched after base a)
   unfolding after
-  alike-words a a8 = rw (opened pool refl a, opened (putDescriptor pool i w) (length-put pool i w fits) a) (by (leb base a && leb (a + 8) (base + length pool)) refl)
+  alike-words a a8 = rw (opened pool refl a, opened (put pool i w) (length-put pool i w fits) a) (by (leb base a && leb (a + 8) (base + length pool)) refl)
     where
       by : (b : Bool) → (leb base a && leb (a + 8) (base + length pool)) ≡ b
           → AlikeWords Alike (pick b (Value (desc pool (a - base))) Unreachable) (pick b (Value (desc after (a - base))) Unreachable)
@@ -179,20 +148,20 @@ module _ (pool : List ℕ) (base i w : ℕ) (b8 : base % 8 ≡ 0) (i8 : i % 8 �
 
 -- the pool's bytes after the descriptor at offset i of the pool was updated
 pool-after : (r : Regime) (m : List ℕ) (i w : ℕ) → r .pool .start + r .pool .length ≤ length m → i + 8 ≤ r .pool .length
-    → poolOf (r .pool) (putDescriptor m (r .pool .start + i) w) ≡ putDescriptor (poolOf (r .pool) m) i w
+    → poolBytes (r .pool) (put m (r .pool .start + i) w) ≡ put (poolBytes (r .pool) m) i w
 pool-after r m i w h k =
     let s = r .pool .start in
     let n = r .pool .length in
-    let pool = poolOf (r .pool) m in
+    let pool = poolBytes (r .pool) m in
     let l : length pool ≡ n = length-part m s n h in
     ap (λ (x : List ℕ). take n (drop s x)) (sym (with-put m s n i w true h k))
-    ∙ part-with m (putDescriptor pool i w) s n h (length-put pool i w (rw l k) ∙ l)
+    ∙ part-with m (put pool i w) s n h (length-put pool i w (rw l k) ∙ l)
 
 -- how two traces end, in the memory before and after: the leaf at the updated descriptor has the new value
 module _ (r : Regime) (pool : List ℕ) (i w : ℕ) (b8 : r .pool .address .0 % 8 ≡ 0) (i8 : i % 8 ≡ 0) (fits : i + 8 ≤ length pool) (small : w < 2 ^ 64)
     (unseen : Alike (desc pool i) w) (u : usable r ≡ true) (x : ℕ) where
   abbrev later : List ℕ
-  later = putDescriptor pool i w
+  later = put pool i w
 
   traces : AlikeTraces Alike (traced r pool x) (traced r later x)
   unfolding traced after
@@ -206,7 +175,7 @@ module _ (r : Regime) (pool : List ℕ) (i w : ℕ) (b8 : r .pool .address .0 % 
   spot-by n (faults kind level) p q = refl
   spot-by n (leaves a left {v = v} {w = y} k) p q =
       let g = found r pool x a v left (usable-sized r u) (usable-root r x u) p in
-      let h = found r (putDescriptor pool i w) x a y left (usable-sized r u) (usable-root r x u) q in
+      let h = found r (put pool i w) x a y left (usable-sized r u) (usable-root r x u) q in
       let j = a - r .pool .address .0 in
       let jl : j + 8 ≤ length pool = omega (arith, g .inside .least, g .inside .most) in
       let j8 : j % 8 ≡ 0 = omega (arith, g .reached .aligned, g .inside .least) in
@@ -228,12 +197,12 @@ module _ (r : Regime) (pool : List ℕ) (i w : ℕ) (b8 : r .pool .address .0 % 
       ap (λ (l : List ℕ). spotAt r (length l) (traced r later x .end)) (sym (traces .visited))
       ∙ spot-by (length (traced r pool x .visited)) (traces .ends) refl refl
 
-marked-where : (r : Regime) (m : List ℕ) → Sound ours r m → (q : ℕ) (f d : Bool) {at : ℕ} {u : Leaf} {n : ℕ} (y : Where r m q at u n) (p : ℕ)
-    → located r (put ours r m (offsetOf r (y .address)) (updated f d (u .value))) p ≡ restamped (offsetOf r (y .address)) (updated f d (u .value)) (located r m p)
+marked-where : (r : Regime) (m : List ℕ) → Admitted ours r m → (q : ℕ) (f d : Bool) {at : ℕ} {u : Leaf} {n : ℕ} (y : Where r m q at u n) (p : ℕ)
+    → located r (putWord ours r m (offsetOf r (y .address)) (updated f d (u .value))) p ≡ restamped (offsetOf r (y .address)) (updated f d (u .value)) (located r m p)
 unfolding located
 marked-where r m s q f d {u = u} y p =
     let g = in-the-pool r m q y in
-    let pool = poolOf (r .pool) m in
+    let pool = poolBytes (r .pool) m in
     let v = updated f d (u .value) in
     let i = y .address - r .pool .address .0 in
     let fits = accepted-pool r (length m) (s .pool) .fits in
@@ -245,17 +214,17 @@ marked-where r m s q f d {u = u} y p =
     let bytes = bytes-take (drop (r .pool .start) m) (r .pool .length) (bytes-drop m (r .pool .start) (s .bytes)) in
     let small : v < 2 ^ 64 = updated-small (u .value) f d (rw (← value) (desc-small pool i bytes)) in
     let unseen : Alike (desc pool i) v = rw value (alike-updated f d (u .value)) in
-    let mem : poolOf (r .pool) (put ours r m (offsetOf r (y .address)) v) ≡ putDescriptor pool i v =
-    ap (poolOf (r .pool)) (put-is r m (offsetOf r (y .address)) v) ∙ pool-after r m i v fits (rw (← l) room) in
+    let mem : poolBytes (r .pool) (putWord ours r m (offsetOf r (y .address)) v) ≡ put pool i v =
+    ap (poolBytes (r .pool)) (put-is r m (offsetOf r (y .address)) v) ∙ pool-after r m i v fits (rw (← l) room) in
     rw (y .regime, mem) (spot-after r pool i v b8 i8 room small unseen (y .regime) (p * pageSize pageBits))
 
-marked-by : (r : Regime) (m : List ℕ) → Sound ours r m → (q : ℕ) (f d : Bool) {at : ℕ} {u : Leaf} {n : ℕ} → located r m q ≡ foundAt at u n → (p : ℕ)
-    → located r (put ours r m at (updated f d (u .value))) p ≡ restamped at (updated f d (u .value)) (located r m p)
+marked-by : (r : Regime) (m : List ℕ) → Admitted ours r m → (q : ℕ) (f d : Bool) {at : ℕ} {u : Leaf} {n : ℕ} → located r m q ≡ foundAt at u n → (p : ℕ)
+    → located r (putWord ours r m at (updated f d (u .value))) p ≡ restamped at (updated f d (u .value)) (located r m p)
 marked-by r m s q f d {u = u} e p =
     let y = where-found r m q e in
-    subst (λ (x : ℕ). located r (put ours r m x (updated f d (u .value))) p ≡ restamped x (updated f d (u .value)) (located r m p)) (y .offset) (marked-where r m s q f d y p)
+    subst (λ (x : ℕ). located r (putWord ours r m x (updated f d (u .value))) p ≡ restamped x (updated f d (u .value)) (located r m p)) (y .offset) (marked-where r m s q f d y p)
 
-pub marks : (r : Regime) (m : List ℕ) → Sound ours r m → (q : ℕ) (o : Result) {at : ℕ} {u : Leaf} {n : ℕ} → located r m q ≡ foundAt at u n → (p : ℕ)
-    → located r (put ours r m at (stamped o (u .value))) p ≡ restamped at (stamped o (u .value)) (located r m p)
+pub marks : (r : Regime) (m : List ℕ) → Admitted ours r m → (q : ℕ) (o : Result) {at : ℕ} {u : Leaf} {n : ℕ} → located r m q ≡ foundAt at u n → (p : ℕ)
+    → located r (putWord ours r m at (stamped o (u .value))) p ≡ restamped at (stamped o (u .value)) (located r m p)
 unfolding stamped
 marks r m s q o e p = marked-by r m s q (accessedIn o) (dirtiedIn o) e p

@@ -8,15 +8,10 @@ use Rattle.descriptor.specs.Bits.{pick}
 use Rattle.vmsa.specs.Answers.{cacheableIn}
 use Rattle.vmsa.specs.declared.Regime.{Regime}
 use Rattle.vmsa.specs.declared.Access.{Access}
-use Rattle.session.specs.Replies.{Reply, done, refused, answered}
-use Rattle.session.specs.Model.{Walker, Session, fresh, Stepped, Call, setRegime, access, store, dropAll, call, entryOf}
-
--- a call, what it handed back, and the memory that it found and left
-pub record Event : Type 0 where
-  pub made : Call
-  pub reply : Reply
-  pub found : List ℕ
-  pub left : List ℕ
+use Rattle.tlb.specs.Replies.{Reply, done, refused, answered}
+use Rattle.tlb.specs.Walker.{Walker, entryOf}
+use Rattle.session.specs.Model.{Session, fresh, Stepped, Call, setRegime, access, store, dropAll, call}
+use Rattle.calls.specs.Chains.{Event, event, isDone, regimeFrom}
 
 -- a session and its memory after a list of calls, the last call first
 pub record World : Type 0 where
@@ -30,7 +25,7 @@ start m = record { session = fresh; memory = m; past = [] }
 
 -- each call gets the session that the last one handed back and the memory as it was left
 abbrev pub after : World → Call → Stepped → World
-after w c r = record { session = r .session; memory = r .memory; past = record { made = c; reply = r .reply; found = w .memory; left = r .memory } ∷ w .past }
+after w c x = record { session = x .session; memory = x .memory; past = event c (w .memory) x ∷ w .past }
 
 abbrev pub next : Walker → World → Call → World
 next W w c = after w c (call W (w .session) (w .memory) c)
@@ -41,21 +36,9 @@ run W w (c ∷ cs) = run W (next W w c) cs
 
 -- ---- the words of rule 3
 
-abbrev pub isDone : Reply → Bool
-isDone done = true
-isDone (refused n) = false
-isDone (answered o n) = false
-
-abbrev pub regimeAfter : Call → Reply → Option Regime → Option Regime
-regimeAfter (setRegime R) reply old = pick (isDone reply) (some R) old
-regimeAfter (access a) reply old = old
-regimeAfter (store address value) reply old = old
-regimeAfter dropAll reply old = old
-
--- the regime last accepted
-abbrev pub regimeOf : List Event → Option Regime
-regimeOf [] = none
-regimeOf (e ∷ before) = regimeAfter (e .made) (e .reply) (regimeOf before)
+-- the regime last accepted, since a fresh session
+abbrev pub lastRegime : List Event → Option Regime
+lastRegime past = regimeFrom none past
 
 -- an emptying is an accepted set regime or a drop all
 abbrev pub empties : Call → Reply → Bool
@@ -74,7 +57,7 @@ asksDrop o e dropAll = false
 -- between here and every accepted store before there is an emptying
 abbrev pub settled : List Event → Bool
 settled [] = true
-settled (e ∷ before) = pick (empties (e .made) (e .reply)) true (pick (asksDrop (regimeOf before) e (e .made)) false (settled before))
+settled (e ∷ before) = pick (empties (e .made) (e .reply)) true (pick (asksDrop (lastRegime before) e (e .made)) false (settled before))
 
 -- the customer's word: a drop all between here and every accepted store before
 abbrev pub isDrop : Call → Bool
@@ -85,7 +68,7 @@ isDrop dropAll = true
 
 abbrev pub dropped : List Event → Bool
 dropped [] = true
-dropped (e ∷ before) = pick (isDrop (e .made)) true (pick (asksDrop (regimeOf before) e (e .made)) false (dropped before))
+dropped (e ∷ before) = pick (isDrop (e .made)) true (pick (asksDrop (lastRegime before) e (e .made)) false (dropped before))
 
 -- an earlier access: its regime, its page, and the memory as it left it
 pub record Moment : Type 0 where
@@ -121,4 +104,4 @@ orEarlier i (some t) old = pick (eqb (entryOf (t .page)) i) (some t) old
 abbrev pub latest : Walker → (ℕ → Bool) → List Event → ℕ → Option Moment
 latest W ok [] i = none
 latest W ok (e ∷ before) i =
-    pick (empties (e .made) (e .reply)) none (orEarlier i (momentOf W ok (regimeOf before) (e .made) (e .reply) (e .left)) (latest W ok before i))
+    pick (empties (e .made) (e .reply)) none (orEarlier i (momentOf W ok (lastRegime before) (e .made) (e .reply) (e .left)) (latest W ok before i))

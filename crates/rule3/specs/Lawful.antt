@@ -14,14 +14,14 @@ use Rattle.vmsa.specs.declared.Access.{Access}
 use Rattle.vmsa.specs.declared.Leaf.{Leaf}
 use Rattle.checks.specs.declared.Checked.{Checked}
 use Rattle.checks.specs.declared.Checked.the-variants.{Accepted, Refused}
-use Rattle.session.specs.Replies.{refused, updates}
-use Rattle.session.specs.Model.{Walker, Spot, lost, found, Walked, andThen, revalued, put, walked}
-use Rattle.rule3.specs.Rule3.{Told, plainly}
+use Rattle.tlb.specs.Replies.{Reply, refused, Told, told, updates}
+use Rattle.tlb.specs.Walker.{Walker, Spot, lost, found, Walked, andThen, revalued, putWord, walked}
+use Rattle.rule3.specs.Rule3.{plainly}
 
 -- what a walk tells, unless its checks refuse it
-abbrev pub unlessRefused : Checked → List ℕ → Walked → Told
-unlessRefused Accepted m w = record { reply = w .reply; memory = w .memory }
-unlessRefused (Refused x) m w = record { reply = refused (numberOf x); memory = m }
+abbrev pub unlessRefused : Checked → List ℕ → Walked → Told Reply
+unlessRefused Accepted m w = told (w .reply) (w .memory)
+unlessRefused (Refused x) m w = told (refused (numberOf x)) m
 
 -- how a lookup ends once the descriptor at an offset has another value
 abbrev pub restamped : ℕ → ℕ → Spot → Spot
@@ -32,7 +32,7 @@ module _ (W : Walker) where
   open Walker W using (memoryCheck, settingCheck, accessCheck, storeCheck, offset, word, page, plain, locate, judge, stamp)
 
   -- a regime that was accepted, over a memory that row 1 lets through
-  pub record Sound (R : Regime) (m : List ℕ) : Type 0 where
+  pub record Admitted (R : Regime) (m : List ℕ) : Type 0 where
     pub pool : memoryCheck R (length m) ≡ Accepted
     pub regime : settingCheck R ≡ Accepted
     pub bytes : Bytes m
@@ -43,7 +43,7 @@ module _ (W : Walker) where
         → plainly W R m a ≡ unlessRefused (andThen (memoryCheck R (length m)) (andThen (settingCheck R) (accessCheck a))) m (walked W R m a)
     -- an accepted store's 8 bytes are in the memory, and so are those of a leaf that is found
     pub room : (R : Regime) (n address : ℕ) → memoryCheck R n ≡ Accepted → storeCheck R address ≡ Accepted → offset R address + 8 ≤ n
-    pub leaf-room : (R : Regime) (m : List ℕ) → Sound R m → (p : ℕ) {at : ℕ} {u : Leaf} {n : ℕ} → locate R m p ≡ found at u n → at + 8 ≤ length m
+    pub leaf-room : (R : Regime) (m : List ℕ) → Admitted R m → (p : ℕ) {at : ℕ} {u : Leaf} {n : ℕ} → locate R m p ≡ found at u n → at + 8 ≤ length m
     pub word-length : (R : Regime) (v : ℕ) → length (word R v) ≡ 8
     pub word-bytes : (R : Regime) (v : ℕ) → Bytes (word R v)
     -- to reach a leaf takes a read
@@ -51,9 +51,9 @@ module _ (W : Walker) where
     -- two pages that reach one descriptor see one value
     pub one : (R : Regime) (m : List ℕ) (p q : ℕ) {at : ℕ} {u v : Leaf} {n k : ℕ} → locate R m p ≡ found at u n → locate R m q ≡ found at v k → u .value ≡ v .value
     -- an update changes the leaf that it is made on and nothing else of any lookup
-    pub marks : (R : Regime) (m : List ℕ) → Sound R m → (q : ℕ) (a : Access) {at : ℕ} {u : Leaf} {n : ℕ}
+    pub marks : (R : Regime) (m : List ℕ) → Admitted R m → (q : ℕ) (a : Access) {at : ℕ} {u : Leaf} {n : ℕ}
         → locate R m q ≡ found at u n → updates (judge R u a) ≡ true → (p : ℕ)
-        → locate R (put W R m at (stamp (judge R u a) (u .value))) p ≡ restamped at (stamp (judge R u a) (u .value)) (locate R m p)
+        → locate R (putWord W R m at (stamp (judge R u a) (u .value))) p ≡ restamped at (stamp (judge R u a) (u .value)) (locate R m p)
     -- no update, no change
     pub unmarked : (o : Result) (v : ℕ) → updates o ≡ false → stamp o v ≡ v
     -- a read, fetch or probe makes no dirty update

@@ -9,18 +9,15 @@ use lib.ListN.{length, getD, take, drop}
 use Rattle.vmsa.specs.Kinds.{writes}
 use Rattle.vmsa.specs.declared.Regime.{Regime}
 use Rattle.vmsa.specs.declared.Access.{Access}
-use Rattle.session.specs.Replies.{Reply, done, refused, answered, replyOf, uncounted, dirties}
-use Rattle.session.specs.Model.{Walker, Stepped, Call, setRegime, access, store, dropAll, noRegime, entryOf, accessCall}
-use Rattle.rule3.specs.Events.{Event, World, regimeOf, settled, Moment, counted, anyCount, latest}
-
--- what an access tells: its reply, and the memory afterwards
-pub record Told : Type 0 where
-  pub reply : Reply
-  pub memory : List ℕ
+use Rattle.tlb.specs.Replies.{Reply, done, refused, answered, Told, told, replyOf, uncounted, dirties}
+use Rattle.tlb.specs.Walker.{Walker, noRegime, entryOf}
+use Rattle.session.specs.Model.{Stepped, Call, setRegime, access, store, dropAll, accessCall}
+use Rattle.calls.specs.Chains.{Event}
+use Rattle.rule3.specs.Events.{World, lastRegime, settled, Moment, counted, anyCount, latest}
 
 -- the plain walk of rule 2, under a regime and over a memory
-abbrev pub plainly : Walker → Regime → List ℕ → Access → Told
-plainly W R m a = record { reply = replyOf (W .plain R a m .result); memory = W .plain R a m .bytes }
+abbrev pub plainly : Walker → Regime → List ℕ → Access → Told Reply
+plainly W R m a = told (replyOf (W .plain R a m .result)) (W .plain R a m .bytes)
 
 -- ---- each call of the list
 
@@ -52,8 +49,8 @@ AccessIn W (some R) isSettled a reply m left = isSettled ≡ true → Alike W R 
 -- what each call keeps to, by the calls before it: set regime, drop all and every refused call leave each byte as they found it
 abbrev pub Kept : Walker → List Event → Call → Reply → List ℕ → List ℕ → Type 0
 Kept W before (setRegime R) reply m left = left ≡ m
-Kept W before (access a) reply m left = Unrefused reply (left ≡ m) (Unit {0}) × AccessIn W (regimeOf before) (settled before) a reply m left
-Kept W before (store address value) reply m left = Unrefused reply (left ≡ m) (StoredIn W (regimeOf before) address value m left)
+Kept W before (access a) reply m left = Unrefused reply (left ≡ m) (Unit {0}) × AccessIn W (lastRegime before) (settled before) a reply m left
+Kept W before (store address value) reply m left = Unrefused reply (left ≡ m) (StoredIn W (lastRegime before) address value m left)
 Kept W before dropAll reply m left = left ≡ m
 
 abbrev pub Every : Walker → List Event → Type 0
@@ -86,7 +83,7 @@ pub record Rule3 (W : Walker) (w : World) : Type 0 where
   -- each call of the list, by those before it
   pub calls : Every W (w .past)
   -- after the list, with drops or without: any access under the regime last accepted, over any bytes of the same length
-  pub remembers : (R : Regime) → regimeOf (w .past) ≡ some R → (a : Access) (m : List ℕ) → length m ≡ length (w .memory)
+  pub remembers : (R : Regime) → lastRegime (w .past) ≡ some R → (a : Access) (m : List ℕ) → length m ≡ length (w .memory)
       → Remembers W w R a m (accessCall W (w .session) m a .reply) (accessCall W (w .session) m a .memory)
   -- a read, fetch or probe never makes a dirty update
   pub quiet : (R : Regime) (m : List ℕ) (a : Access) → writes (a .kind) ≡ false → dirties (plainly W R m a .reply) ≡ false

@@ -16,7 +16,7 @@ use Rattle.vmsa.specs.declared.FaultKind.the-variants.{AccessFlag, Permission, 
 use Rattle.lookup.specs.Trace.{End, fault, leaf}
 use Rattle.permission.specs.Permission.{flagFails, alignmentFails, permissionFails}
 use Rattle.decision.specs.Decision.{Decision, firstFailing, failing, passing, decision}
-use Rattle.walk.specs.Walk.{Outcome, traced, settled, walkPool}
+use Rattle.walk.specs.Walk.{Outcome, traced, applied, walkPool}
 use Rattle.rules.specs.Steps.{step, leafSteps, walkSteps}
 use Rattle.rules.proofs.StepLaws.{Fault, firstFault, endFault, walk-steps}
 
@@ -74,7 +74,7 @@ decision-at r a l reads o q = subst (Decided r a l reads (decision r a l reads))
 module _ (r : Regime) (a : Access) (pool : List ℕ) where
   -- a leaf none of whose steps fails
   pub leaf-passes : (address value left : ℕ) → traced r pool (a .address .0) .end ≡ leaf address value left → firstFault (leafSteps r a (leafAt value left)) ≡ none
-      → walkPool r a pool ≡ settled pool (address - r .pool .address .0) (passing r a (leafAt value left) (length (traced r pool (a .address .0) .visited)))
+      → walkPool r a pool ≡ applied pool (address - r .pool .address .0) (passing r a (leafAt value left) (length (traced r pool (a .address .0) .visited)))
   unfolding walkPool
   leaf-passes address value left e q =
       let d = decision-at r a (leafAt value left) (length (traced r pool (a .address .0) .visited)) none q in

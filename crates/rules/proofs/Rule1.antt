@@ -16,7 +16,7 @@ use Rattle.checks.specs.declared.Checked.{Checked}
 use Rattle.checks.specs.declared.Checked.the-variants.{Accepted, Refused}
 use Rattle.checks.specs.Order.{walkRows, walkCheck}
 use Rattle.decision.specs.Decision.{flagDue, dirtyDue}
-use Rattle.walk.specs.Walk.{Outcome, poolOf, walkPool, walk}
+use Rattle.walk.specs.Walk.{Outcome, poolBytes, walkPool, walk}
 use Rattle.walk.proofs.Ends.{ready}
 use Rattle.rules.specs.Rule1.{FirstRow, Rule1}
 use Rattle.rules.specs.Rule2.{stepsOf, offset}
@@ -49,7 +49,7 @@ module _ (r : Regime) (a : Access) (m : List ℕ) where
       by (Refused x) e = rw (walk-refused r a m x e)
       by Accepted e =
           rw (walk-taken r a m e)
-          (length-with m (walkPool r a (poolOf (r .pool) m) .bytes) (r .pool .start) (r .pool .length) (ready (length m) r a e .fits) (pool-length r a m e))
+          (length-with m (walkPool r a (poolBytes (r .pool) m) .bytes) (r .pool .start) (r .pool .length) (ready (length m) r a e .fits) (pool-length r a m e))
 
   same-outside : (i : ℕ) → (i < r .pool .start) ⊎ (r .pool .start + r .pool .length ≤ i) → getD (walk r a m .bytes) i 0 ≡ getD m i 0
   same-outside i h = by (walkCheck (length m) r a) refl h
@@ -58,10 +58,10 @@ module _ (r : Regime) (a : Access) (m : List ℕ) where
       by (Refused x) e h = rw (walk-refused r a m x e)
       by Accepted e (inl h) =
           rw (walk-taken r a m e)
-          (getD-with-before m (walkPool r a (poolOf (r .pool) m) .bytes) (r .pool .start) (r .pool .length) (ready (length m) r a e .fits) (pool-length r a m e) i h)
+          (getD-with-before m (walkPool r a (poolBytes (r .pool) m) .bytes) (r .pool .start) (r .pool .length) (ready (length m) r a e .fits) (pool-length r a m e) i h)
       by Accepted e (inr h) =
           rw (walk-taken r a m e)
-          (getD-with-after m (walkPool r a (poolOf (r .pool) m) .bytes) (r .pool .start) (r .pool .length) (ready (length m) r a e .fits) (pool-length r a m e) i h)
+          (getD-with-after m (walkPool r a (poolBytes (r .pool) m) .bytes) (r .pool .start) (r .pool .length) (ready (length m) r a e .fits) (pool-length r a m e) i h)
 
   same-bytes : Bytes m → Bytes (walk r a m .bytes)
   same-bytes h = by (walkCheck (length m) r a) refl
@@ -77,17 +77,17 @@ module _ (r : Regime) (a : Access) (m : List ℕ) where
       by (Refused x) e = rw (walk-refused r a m x e) h
       by Accepted e = taken e (firstFault (stepsOf r a m)) refl
 
-  pool-after : walkCheck (length m) r a ≡ Accepted → poolOf (r .pool) (walk r a m .bytes) ≡ walkPool r a (poolOf (r .pool) m) .bytes
+  pool-after : walkCheck (length m) r a ≡ Accepted → poolBytes (r .pool) (walk r a m .bytes) ≡ walkPool r a (poolBytes (r .pool) m) .bytes
   pool-after e =
       rw (walk-taken r a m e)
-      (part-with m (walkPool r a (poolOf (r .pool) m) .bytes) (r .pool .start) (r .pool .length) (ready (length m) r a e .fits) (pool-length r a m e))
+      (part-with m (walkPool r a (poolBytes (r .pool) m) .bytes) (r .pool .start) (r .pool .length) (ready (length m) r a e .fits) (pool-length r a m e))
 
-same-answer : (r : Regime) (a : Access) (m n : List ℕ) → length m ≡ length n → poolOf (r .pool) m ≡ poolOf (r .pool) n
-    → (walk r a m .result ≡ walk r a n .result) × (poolOf (r .pool) (walk r a m .bytes) ≡ poolOf (r .pool) (walk r a n .bytes))
+same-answer : (r : Regime) (a : Access) (m n : List ℕ) → length m ≡ length n → poolBytes (r .pool) m ≡ poolBytes (r .pool) n
+    → (walk r a m .result ≡ walk r a n .result) × (poolBytes (r .pool) (walk r a m .bytes) ≡ poolBytes (r .pool) (walk r a n .bytes))
 same-answer r a m n l p = by (walkCheck (length n) r a) refl
   where
     by : (c : Checked) → walkCheck (length n) r a ≡ c
-        → (walk r a m .result ≡ walk r a n .result) × (poolOf (r .pool) (walk r a m .bytes) ≡ poolOf (r .pool) (walk r a n .bytes))
+        → (walk r a m .result ≡ walk r a n .result) × (poolBytes (r .pool) (walk r a m .bytes) ≡ poolBytes (r .pool) (walk r a n .bytes))
     by (Refused x) e =
         let f : walkCheck (length m) r a ≡ Refused x = rw l e in
         rw (walk-refused r a m x f, walk-refused r a n x e) (refl, p)

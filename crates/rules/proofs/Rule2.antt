@@ -30,7 +30,7 @@ use Rattle.lookup.proofs.Decoding.{is-leaf, output-below}
 use Rattle.lookup.proofs.Reach.{locate-visited}
 use Rattle.permission.specs.Permission.{attributeOf}
 use Rattle.decision.specs.Decision.{flagDue, dirtyDue, updated, cacheable, outputOf}
-use Rattle.walk.specs.Walk.{walk, traced, poolOf}
+use Rattle.walk.specs.Walk.{walk, traced, poolBytes}
 use Rattle.walk.proofs.Ends.{ready}
 use Rattle.rules.specs.Steps.{AllPass, FirstFails, leafSteps}
 use Rattle.rules.specs.Rule2.{stepsOf, traceOf, LeafOf, offset, valueAfter, Placed, Right, FlagUpdate, DirtyUpdate, Marked, Rule2}
@@ -66,7 +66,7 @@ module _ (r : Regime) (a : Access) (m : List ℕ) where
 
   reads-most : walkCheck (length m) r a ≡ Accepted → readsOf r a m ≤ 4
   unfolding traced
-  reads-most c = locate-visited r (fetched (poolOf (r .pool) m) (r .pool .address .0)) (a .address .0) (ready (length m) r a c .sized)
+  reads-most c = locate-visited r (fetched (poolBytes (r .pool) m) (r .pool .address .0)) (a .address .0) (ready (length m) r a c .sized)
 
   -- ---- faults
 

@@ -29,7 +29,7 @@ use Rattle.checks.proofs.Accept.{walk-accepted}
 use Rattle.lookup.proofs.Decoding.{aligned8}
 use Rattle.permission.specs.Permission.{attributeOf}
 use Rattle.decision.specs.Decision.{flagDue, dirtyDue, updated, cacheable, outputOf, passing}
-use Rattle.walk.specs.Walk.{Outcome, poolOf, withPool, settled, walkPool, walk}
+use Rattle.walk.specs.Walk.{Outcome, poolBytes, withPoolBytes, applied, walkPool, walk}
 use Rattle.walk.proofs.Ends.{Found, found, ready, aligned-zero}
 use Rattle.rules.specs.Steps.{leafSteps}
 use Rattle.rules.specs.Rule2.{stepsOf, traceOf, LeafOf, offset, Placed}
@@ -72,8 +72,8 @@ module _ (r : Regime) (a : Access) (m : List ℕ) where
   pub walk-taken : walkCheck (length m) r a ≡ Accepted
       → walk r a m
       ≡ record {
-        result = walkPool r a (poolOf (r .pool) m) .result;
-        bytes = withPool (r .pool) m (walkPool r a (poolOf (r .pool) m) .bytes);
+        result = walkPool r a (poolBytes (r .pool) m) .result;
+        bytes = withPoolBytes (r .pool) m (walkPool r a (poolBytes (r .pool) m) .bytes);
       }
   unfolding walk
   walk-taken e = rw e
@@ -81,12 +81,12 @@ module _ (r : Regime) (a : Access) (m : List ℕ) where
   -- ---- where a leaf lies
 
   module _ (c : walkCheck (length m) r a ≡ Accepted) where
-    pub leaf-found : (l : LeafOf r a m) → Found r (poolOf (r .pool) m) (a .address .0) (l .address) (l .value) (l .left)
+    pub leaf-found : (l : LeafOf r a m) → Found r (poolBytes (r .pool) m) (a .address .0) (l .address) (l .value) (l .left)
     leaf-found l =
         let h = ready (length m) r a c in
-        found r (poolOf (r .pool) m) (a .address .0) (l .address) (l .value) (l .left) (h .sized) (h .root) (l .reached)
+        found r (poolBytes (r .pool) m) (a .address .0) (l .address) (l .value) (l .left) (h .sized) (h .root) (l .reached)
 
-    pool-long : length (poolOf (r .pool) m) ≡ r .pool .length
+    pool-long : length (poolBytes (r .pool) m) ≡ r .pool .length
     pool-long = length-part m (r .pool .start) (r .pool .length) (ready (length m) r a c .fits)
 
     leaf-inside : (l : LeafOf r a m) → (r .pool .address .0 ≤ l .address) × (l .address - r .pool .address .0 + 8 ≤ r .pool .length)
@@ -114,16 +114,16 @@ module _ (r : Regime) (a : Access) (m : List ℕ) where
 
   pub passed-leaf : firstFault (stepsOf r a m) ≡ none → LeafOf r a m
   passed-leaf q =
-      let p = pool-by r a (poolOf (r .pool) m) none q in
+      let p = pool-by r a (poolBytes (r .pool) m) none q in
       record { address = p .address; value = p .value; left = p .left; reached = p .ends }
 
   -- the first failing step of a walk that ends in a leaf is the leaf's
   pub leaf-first : (l : LeafOf r a m) → firstFault (leafSteps r a (leafIn l)) ≡ firstFault (stepsOf r a m)
-  leaf-first l = sym (walk-steps r a (poolOf (r .pool) m) ∙ ap (endFault r a) (l .reached))
+  leaf-first l = sym (walk-steps r a (poolBytes (r .pool) m) ∙ ap (endFault r a) (l .reached))
 
   passed-pool : firstFault (stepsOf r a m) ≡ none → (l : LeafOf r a m)
-      → walkPool r a (poolOf (r .pool) m) ≡ settled (poolOf (r .pool) m) (l .address - r .pool .address .0) (passing r a (leafIn l) (readsOf r a m))
-  passed-pool q l = leaf-passes r a (poolOf (r .pool) m) (l .address) (l .value) (l .left) (l .reached) (leaf-first l ∙ q)
+      → walkPool r a (poolBytes (r .pool) m) ≡ applied (poolBytes (r .pool) m) (l .address - r .pool .address .0) (passing r a (leafIn l) (readsOf r a m))
+  passed-pool q l = leaf-passes r a (poolBytes (r .pool) m) (l .address) (l .value) (l .left) (l .reached) (leaf-first l ∙ q)
 
   -- the fault of a step
   abbrev pub faultOf : Fault → Faulted
@@ -131,10 +131,10 @@ module _ (r : Regime) (a : Access) (m : List ℕ) where
 
   module _ (c : walkCheck (length m) r a ≡ Accepted) where
     pub failed-result : (f : Fault) → firstFault (stepsOf r a m) ≡ some f → walk r a m .result ≡ faulted (faultOf f)
-    failed-result f q = rw (walk-taken c, pool-by r a (poolOf (r .pool) m) (some f) q)
+    failed-result f q = rw (walk-taken c, pool-by r a (poolBytes (r .pool) m) (some f) q)
 
     pub failed-bytes : (f : Fault) → firstFault (stepsOf r a m) ≡ some f → walk r a m .bytes ≡ m
-    failed-bytes f q = rw (walk-taken c, pool-by r a (poolOf (r .pool) m) (some f) q) (with-own m (r .pool .start) (r .pool .length))
+    failed-bytes f q = rw (walk-taken c, pool-by r a (poolBytes (r .pool) m) (some f) q) (with-own m (r .pool .start) (r .pool .length))
 
     pub passed-result : firstFault (stepsOf r a m) ≡ none → (l : LeafOf r a m) → walk r a m .result ≡ success (told r a (leafIn l) (readsOf r a m))
     unfolding passing
@@ -149,12 +149,12 @@ module _ (r : Regime) (a : Access) (m : List ℕ) where
         (ready (length m) r a c .fits) (leaf-inside c l .1))
 
     -- the walk over the pool leaves as many bytes
-    pub pool-length : length (walkPool r a (poolOf (r .pool) m) .bytes) ≡ r .pool .length
+    pub pool-length : length (walkPool r a (poolBytes (r .pool) m) .bytes) ≡ r .pool .length
     unfolding passing
     pool-length = by (firstFault (stepsOf r a m)) refl
       where
         pool : List ℕ
-        pool = poolOf (r .pool) m
+        pool = poolBytes (r .pool) m
 
         by : (o : Option Fault) → firstFault (stepsOf r a m) ≡ o → length (walkPool r a pool .bytes) ≡ r .pool .length
         by none q =

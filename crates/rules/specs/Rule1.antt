@@ -13,17 +13,20 @@ use Rattle.vmsa.specs.declared.Access.{Access}
 use Rattle.vmsa.specs.declared.Refusal.{Refusal}
 use Rattle.checks.specs.declared.Checked.the-variants.{Accepted}
 use Rattle.checks.specs.Order.{walkRows, walkCheck}
-use Rattle.walk.specs.Walk.{walk, poolOf}
+use Rattle.walk.specs.Walk.{walk, poolBytes}
 
 -- the first row of a table that applies
 pub data FirstRow : List (Bool × Refusal) → Refusal → Type 0 where
   here : {x : Refusal} {rows : List (Bool × Refusal)} → FirstRow ((true, x) ∷ rows) x
   later : {x y : Refusal} {rows : List (Bool × Refusal)} → FirstRow rows x → FirstRow ((false, y) ∷ rows) x
 
+-- and its number
+abbrev pub FirstNumber : List (Bool × Refusal) → ℕ → Type 0
+FirstNumber rows k = (x : Refusal) × FirstRow rows x × (numberOf x ≡ k)
+
 pub record Rule1 : Type 0 where
   -- a refusal is given exactly where the documents' table says, with the number of the first row that applies
-  pub refusals : (r : Regime) (a : Access) (m : List ℕ) (k : ℕ)
-      → (walk r a m .result ≡ refused k) ↔ ((x : Refusal) × FirstRow (walkRows (length m) r a) x × (numberOf x ≡ k))
+  pub refusals : (r : Regime) (a : Access) (m : List ℕ) (k : ℕ) → (walk r a m .result ≡ refused k) ↔ FirstNumber (walkRows (length m) r a) k
   -- and is not given exactly where the checks of that table accept
   pub accepted : (r : Regime) (a : Access) (m : List ℕ) → (walkCheck (length m) r a ≡ Accepted) ↔ ((k : ℕ) → walk r a m .result ≢ refused k)
   -- a refusal changes no memory (a plain walk has no session)
@@ -36,5 +39,5 @@ pub record Rule1 : Type 0 where
   -- and bytes stay bytes
   pub bytes : (r : Regime) (a : Access) (m : List ℕ) → Bytes m → Bytes (walk r a m .bytes)
   -- no byte outside the guest's pool has a say: two memories of one length with the same pool get the same answer and the same pool afterwards
-  pub unheard : (r : Regime) (a : Access) (m n : List ℕ) → length m ≡ length n → poolOf (r .pool) m ≡ poolOf (r .pool) n
-      → (walk r a m .result ≡ walk r a n .result) × (poolOf (r .pool) (walk r a m .bytes) ≡ poolOf (r .pool) (walk r a n .bytes))
+  pub unheard : (r : Regime) (a : Access) (m n : List ℕ) → length m ≡ length n → poolBytes (r .pool) m ≡ poolBytes (r .pool) n
+      → (walk r a m .result ≡ walk r a n .result) × (poolBytes (r .pool) (walk r a m .bytes) ≡ poolBytes (r .pool) (walk r a n .bytes))

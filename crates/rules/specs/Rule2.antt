@@ -21,15 +21,15 @@ use Rattle.vmsa.specs.declared.FaultKind.the-variants.{Permission, Alignment}
 use Rattle.checks.specs.declared.Checked.the-variants.{Accepted}
 use Rattle.checks.specs.Order.{walkCheck}
 use Rattle.lookup.specs.Trace.{Trace, leaf}
-use Rattle.walk.specs.Walk.{walk, traced, poolOf}
+use Rattle.walk.specs.Walk.{walk, traced, poolBytes}
 use Rattle.rules.specs.Steps.{Step, AllPass, FirstFails, walkSteps}
 
 -- the steps of an access, and its trace: the list of descriptor addresses visited, and the end, a fault or a leaf
 abbrev pub stepsOf : Regime → Access → List ℕ → List Step
-stepsOf r a m = walkSteps r a (poolOf (r .pool) m)
+stepsOf r a m = walkSteps r a (poolBytes (r .pool) m)
 
 abbrev pub traceOf : Regime → Access → List ℕ → Trace
-traceOf r a m = traced r (poolOf (r .pool) m) (a .address .0)
+traceOf r a m = traced r (poolBytes (r .pool) m) (a .address .0)
 
 -- the one leaf of an access, where its trace ends in one: the address and value of its descriptor, and the levels left below it
 pub record LeafOf (r : Regime) (a : Access) (m : List ℕ) : Type 0 where

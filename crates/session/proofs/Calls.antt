@@ -1,91 +1,63 @@
--- The calls of a session from what the code computed: its checks, the walk of a miss, a store.
-use Prim.Native.Nat.{ℕ, _+_, _-_, _%_, _<_, _≤_}
+-- The calls of a session from what the code computed: its checks, a store, the one entry of an access.
+use Prim.Native.Nat.{ℕ, _+_, _-_, _%_, _≤_}
 use mathlib.Core.Bool.{Bool, true, false, not, _||_}
 use mathlib.Core.List.{List, _++_}
-use mathlib.Core.Option.{Option, none, some, Option·some-injective}
+use mathlib.Core.Option.{Option, none, some}
 use mathlib.Core.Path.{_≡_, refl, sym, ap, subst, _∙_}
 use native.Mathlib.Omega.{arith}
 use lib.Dec.{ltb, eqb}
-use lib.ListN.{length, getD, take, drop}
+use lib.ListN.{length, getD, set as setAt, take, drop, List·getD-map}
 use borrow.Author.Tests.{ltb-false, eqb-true, not-false}
-use Rattle.descriptor.specs.Bytes.{put as putDescriptor}
+use Rattle.descriptor.specs.Bytes.{put}
 use Rattle.descriptor.specs.Bits.{pick}
-use Rattle.descriptor.proofs.Tests.{clash, or-false}
+use Rattle.descriptor.proofs.Tests.{or-false}
 use Rattle.descriptor.proofs.Laws.{put-part}
-use Rattle.vmsa.specs.Words.{flag, regimeOf}
-use Rattle.vmsa.specs.Answers.{view, numberOf, cacheableIn, codeOf}
+use Rattle.vmsa.specs.Words.{flag, regimeOf, regimeWords}
 use Rattle.vmsa.specs.declared.Regime.{Regime}
 use Rattle.vmsa.specs.declared.RegimeWords.{RegimeWords}
-use Rattle.vmsa.specs.declared.Refusal.{Refusal}
 use Rattle.vmsa.specs.declared.Pool.{Pool}
 use Rattle.vmsa.specs.declared.Access.{Access}
 use Rattle.vmsa.specs.declared.Leaf.{Leaf}
+use Rattle.vmsa.proofs.Words.{regime-words}
 use Rattle.checks.specs.declared.Checked.{Checked}
 use Rattle.checks.specs.declared.Checked.the-variants.{Accepted, Refused}
 use Rattle.refusals.specs.Tests.{storeAddressBad}
-use Rattle.checks.specs.Order.{memoryRows, settingRows, accessRows, storeRows, regimeCheck, sessionAccessCheck, sessionStoreCheck}
-use Rattle.checks.proofs.Accept.{clear, pooled, shaped}
-use Rattle.lookup.specs.Trace.{End, fault, leaf}
-use Rattle.decision.specs.Decision.{decision}
-use Rattle.walk.specs.declared.Walked.{Walked as WalkedStruct}
-use Rattle.walk.specs.declared.Kept.{Kept}
-use Rattle.walk.specs.declared.Kept.the-variants as kept
-use Rattle.walk.specs.Walk.{Outcome, outcome, traced, walkPool, keptAt, keptPool, keptLeaf}
-use Rattle.walk.proofs.Parts.{put-back, length-part}
-use Rattle.walk.proofs.Ends.{found}
+use Rattle.checks.specs.Order.{memoryRows, settingRows, storeRows, regimeCheck, sessionStoreCheck}
+use Rattle.checks.proofs.Accept.{clear, pooled}
+use Rattle.walk.proofs.Parts.{length-part}
+use Rattle.tlb.specs.declared.Entry.{Entry as EntryStruct}
+use Rattle.tlb.specs.Replies.{Reply, Told, told, replyTo, refused}
+use Rattle.tlb.specs.Walker.{andThen, noRegime, Entry, empty, entryOf, Walked, putWord, accessIn}
+use Rattle.tlb.specs.Ours.{offsetOf, ours}
+use Rattle.tlb.specs.Entries.{entryView, noEntry, regimeIn, pageFor, entryFor, EntryLeft, entryLeft, filledBy, accessedEntry, entryReply}
+use Rattle.tlb.proofs.Walking.{first-append, put-is}
+use Rattle.tlb.proofs.Access.{keptIn, accessed-view, hit-is-access}
 use Rattle.session.specs.declared.Session.{Session as SessionStruct}
-use Rattle.session.specs.declared.Entry.{Entry as EntryStruct}
-use Rattle.session.specs.Replies.{Reply, done, refused, replyOf}
-use Rattle.vmsa.specs.declared.FaultKind.the-variants.{Translation}
-use Rattle.session.specs.Model.{Walked, lost, walkFrom, Session, Entry, andThen, walked, held, keep, learn, noRegime, setBy, setCall, accessHeld, accessBy, accessIn, accessCall, storeBy, storeIn, storeCall, put}
-use Rattle.session.specs.Ours.{usable, offsetOf, located, ours}
-use Rattle.session.specs.View.{noEntry, entryView, regimeIn, sessionView, stepped, walkedView, entryAnswer, Low, entryFor, withEntry, Answers, Fills, Stores, checkedReply, entryReply, hitKindIn, isHit}
-use Rattle.session.proofs.Entries.{with-same, hit-outcome}
-use Rattle.session.proofs.Walking.{first-append, usable-sized, usable-root, put-is, walked-pool}
+use Rattle.session.specs.Model.{Session, Left, left, Stepped, keep, setBy, setCall, learn, accessWith, accessCall, storeBy, storeIn, Call, setRegime, access, store, dropAll, call}
+use Rattle.session.specs.View.{sessionView, viewed, setTo, setAfter, entryIn, withEntry, accessedSession, leaves}
+use Rattle.session.proofs.Lists.{set-same, map-set}
 
--- ---- the checks of each call
+-- ---- a set regime
 
 pub set-checked : (s : Session) (m : List ℕ) (r : Regime) → setCall ours s m r ≡ setBy ours s m r (regimeCheck (length m) r)
 unfolding regimeCheck
 set-checked s m r = ap (setBy ours s m r) (sym (first-append (memoryRows (length m) (r .pool)) (settingRows r)))
 
--- rows 1, 6 and 7, one after another
-checks-apart : (n : ℕ) (r : Regime) (a : Access) → andThen (ours .memoryCheck r n) (ours .accessCheck a) ≡ sessionAccessCheck n (r .pool) a
-unfolding sessionAccessCheck
-checks-apart n r a = sym (first-append (memoryRows n (r .pool)) (accessRows a))
+module _ (s : SessionStruct) (m : List ℕ) (r : Regime) where
+  set-by : (x : Checked) → left (setAfter s r x) m (replyTo x) ≡ left (setAfter s r x) (setBy ours (sessionView s) m r x .memory) (setBy ours (sessionView s) m r x .reply)
+  set-by Accepted = refl
+  set-by (Refused x) = refl
 
-module _ (s : SessionStruct) (m : List ℕ) (e : flag (s .set) ≡ true) where
-  regime-set : sessionView s .regime ≡ some (regimeOf (s .regime))
-  regime-set = ap (λ (b : Bool). pick b (some (regimeOf (s .regime))) none) e
+  pub set-leaves : (x : Checked) → regimeCheck (length m) r ≡ x → left (setAfter s r x) m (replyTo x) ≡ leaves s m (setRegime r)
+  set-leaves x e =
+      subst (λ (y : Checked). left (setAfter s r y) m (replyTo y) ≡ leaves s m (setRegime r)) e
+      (set-by (regimeCheck (length m) r) ∙ ap (λ (y : Stepped). left (setAfter s r (regimeCheck (length m) r)) (y .memory) (y .reply)) (sym (set-checked (sessionView s) m r)))
 
-  pub access-checked : (a : Access) → accessCall ours (sessionView s) m a ≡ accessBy ours (sessionView s) m (regimeOf (s .regime)) a (sessionAccessCheck (length m) (regimeOf (s .regime) .pool) a)
-  access-checked a =
-      ap (accessIn ours (sessionView s) m a) regime-set
-      ∙ ap (accessBy ours (sessionView s) m (regimeOf (s .regime)) a) (checks-apart (length m) (regimeOf (s .regime)) a)
+  set-view : (x : Checked) → sessionView (setAfter s r x) ≡ setBy ours (sessionView s) m r x .session
+  set-view Accepted = rw (regime-words r)
+  set-view (Refused x) = refl
 
-  pub store-checked : (address value : ℕ)
-      → storeCall ours (sessionView s) m address value ≡ storeBy ours (sessionView s) m (regimeOf (s .regime)) address value (sessionStoreCheck (length m) (regimeOf (s .regime) .pool) address)
-  unfolding sessionStoreCheck
-  store-checked address value =
-      ap (storeIn ours (sessionView s) m address value) regime-set
-      ∙ ap (storeBy ours (sessionView s) m (regimeOf (s .regime)) address value) (sym (first-append (memoryRows (length m) (regimeOf (s .regime) .pool)) (storeRows (regimeOf (s .regime) .pool) address)))
-
-module _ (s : SessionStruct) (m : List ℕ) (e : flag (s .set) ≡ false) where
-  regime-unset : sessionView s .regime ≡ none
-  regime-unset = ap (λ (b : Bool). pick b (some (regimeOf (s .regime))) none) e
-
-  pub access-unset : (a : Access) → accessCall ours (sessionView s) m a ≡ accessIn ours (sessionView s) m a none
-  access-unset a = ap (accessIn ours (sessionView s) m a) regime-unset
-
-  pub store-unset : (address value : ℕ) → storeCall ours (sessionView s) m address value ≡ storeIn ours (sessionView s) m address value none
-  store-unset address value = ap (storeIn ours (sessionView s) m address value) regime-unset
-
--- what acceptance gives
-pub access-accepted : (n : ℕ) (pool : Pool) (a : Access) → sessionAccessCheck n pool a ≡ Accepted → (pool .start + pool .length ≤ n) × (0 < a .size)
-unfolding sessionAccessCheck
-access-accepted n pool a e =
-    let c = clear (memoryRows n pool ++ accessRows a) e in
-    (pooled n pool (c .0) .fits, shaped a (c .1 .0) (c .1 .1 .0) .positive)
+-- ---- a store
 
 pub record Storable (n : ℕ) (pool : Pool) (address : ℕ) : Type 0 where
   pub fits : pool .start + pool .length ≤ n
@@ -113,61 +85,14 @@ store-accepted n pool address e =
     let s = storable-by pool address (c .1 .0) in
     record { fits = pooled n pool (c .0) .fits; aligned = s .0; least = s .1; most = s .2 }
 
--- ---- a miss
-
-module _ (r : Regime) (m : List ℕ) (a : Access) (u : usable r ≡ true) (h : r .pool .start + r .pool .length ≤ length m) where
-  pub miss-outcome : (w : WalkedStruct) (x : List ℕ) (k : ℕ) → k ≡ r .pool .length
-      → outcome (w .answer) x ≡ walkPool r a (take k (drop (r .pool .start) m)) → keptLeaf (w .kept) ≡ keptPool r a (take k (drop (r .pool .start) m))
-      → walkedView w (take (r .pool .start) m ++ (x ++ drop k (drop (r .pool .start) m))) ≡ walked ours r m a
-  miss-outcome w x k q e f =
-      let s = r .pool .start in
-      let p = walkPool r a (take (r .pool .length) (drop s m)) in
-      let e2 : outcome (w .answer) x ≡ p = rw q at e in
-      let f2 : keptLeaf (w .kept) ≡ keptPool r a (take (r .pool .length) (drop s m)) = rw q at f in
-      let g : view (w .answer) ≡ p .result = ap (λ (o : Outcome). o .result) e2 in
-      let b : x ≡ p .bytes = ap (λ (o : Outcome). o .bytes) e2 in
-      rw (q, put-back m x s (r .pool .length), f2, g, b) (sym (walked-pool r m a (usable-sized r u) (usable-root r (a .address .0) u) h u))
-
--- a leaf that is kept stands at a level
-low-by : (r : Regime) (a : Access) (n : ℕ) (x : End) (k : Kept) → ((at v left : ℕ) → x ≡ leaf at v left → left ≤ 3) → keptLeaf k ≡ keptAt r a n x → Low k
-low-by r a n x kept.Nothing h q = tt
-low-by r a n (fault kind level) (kept.Leaf l) h q = clash (cc)
-low-by r a n (leaf at v left) (kept.Leaf l) h q =
-    by (cacheableIn (decision r a (record { value = v; left = left }) n .result)) q
-  where
-    by : (b : Bool) → some l ≡ pick b (some (record { value = decision r a (record { value = v; left = left }) n .value; left = left })) none → l .left ≤ 3
-    by true q =
-        subst (λ (y : Leaf). y .left ≤ 3) (sym (Option·some-injective l (record { value = decision r a (record { value = v; left = left }) n .value; left = left }) q)) (h at v left refl)
-    by false q = clash (cc)
-
-pub kept-low : (r : Regime) (pool : List ℕ) (a : Access) (k : Kept) → usable r ≡ true → keptLeaf k ≡ keptPool r a pool → Low k
-unfolding keptPool
-kept-low r pool a k u q =
-    low-by r a (length (traced r pool (a .address .0) .visited)) (traced r pool (a .address .0) .end) k
-    (λ at v left e. found r pool (a .address .0) at v left (usable-sized r u) (usable-root r (a .address .0) u) e .reached .low) q
-
-pub unusable-outcome : (r : Regime) (m : List ℕ) (a : Access) (w : Walked) → usable r ≡ false → w ≡ walkFrom ours r m a (lost (codeOf Translation 0) 0 0) → w ≡ walked ours r m a
-unfolding located
-unusable-outcome r m a w u e = e ∙ rw u
-
--- ---- a store
-
 pub stored : (r : Regime) (m : List ℕ) (address value : ℕ) → Storable (length m) (r .pool) address → (x : List ℕ) (k : ℕ) → k ≡ r .pool .length
-    → x ≡ putDescriptor (take k (drop (r .pool .start) m)) (address - r .pool .address .0) value
-    → take (r .pool .start) m ++ (x ++ drop k (drop (r .pool .start) m)) ≡ put ours r m (offsetOf r address) value
+    → x ≡ put (take k (drop (r .pool .start) m)) (address - r .pool .address .0) value
+    → take (r .pool .start) m ++ (x ++ drop k (drop (r .pool .start) m)) ≡ putWord ours r m (offsetOf r address) value
 stored r m address value h x k q e =
     let i = address - r .pool .address .0 in
     let n = r .pool .length in
     let room : i + 8 ≤ n = omega (arith, h .least, h .most) in
     rw (e, q, put-is r m (offsetOf r address) value) (put-part m (r .pool .start) n i value (h .fits) room)
-
--- ---- what a walk leaves in the session
-
-pub learned : (s after : SessionStruct) (r : Regime) (m : List ℕ) (a : Access) (w : WalkedStruct) (x : List ℕ) → walkedView w x ≡ walked ours r m a
-    → sessionView after ≡ record { regime = sessionView s .regime; entries = keep (sessionView s .entries) (ours .page r a) (keptLeaf (w .kept)) }
-    → stepped after x (replyOf (view (w .answer))) ≡ learn ours (sessionView s) (ours .page r a) (walked ours r m a)
-learned s after r m a w x e k =
-    ap (λ (v : Session). record { session = v; memory = x; reply = replyOf (view (w .answer)) }) k ∙ ap (learn ours (sessionView s) (ours .page r a)) e
 
 -- a storable descriptor lies in the pool's part of the memory
 pub store-room : (r : Regime) (m : List ℕ) (address k : ℕ) → Storable (length m) (r .pool) address → k ≡ r .pool .length
@@ -175,84 +100,81 @@ pub store-room : (r : Regime) (m : List ℕ) (address k : ℕ) → Storable (len
 store-room r m address k h q = rw (q, length-part m (r .pool .start) (r .pool .length) (h .fits)) (omega (arith, h .least, h .most))
 
 module _ (regime : RegimeWords) (set address value : ℕ) (m : List ℕ) where
-  pub stores-unset : flag set ≡ false → Stores regime set address value m m (refused noRegime)
-  stores-unset f s q1 q2 = sym (store-unset s m (ap flag q2 ∙ f) address value)
+  abbrev storing : Bool → Told Reply
+  storing b = storeIn ours (pick b (some (regimeOf regime)) none) m address value
 
-  module _ (f : flag set ≡ true) (r : Regime) (q : r ≡ regimeOf regime) where
-    store-by : (s : SessionStruct) → s .regime ≡ regime → s .set ≡ set → (x : Checked) → sessionStoreCheck (length m) (r .pool) address ≡ x
-        → storeCall ours (sessionView s) m address value ≡ storeBy ours (sessionView s) m r address value x
-    store-by s q1 q2 x h =
-        let own : regimeOf (s .regime) ≡ r = ap regimeOf q1 ∙ sym q in
-        store-checked s m (ap flag q2 ∙ f) address value ∙ ap (λ (y : Regime). storeBy ours (sessionView s) m y address value (sessionStoreCheck (length m) (y .pool) address)) own
-        ∙ ap (storeBy ours (sessionView s) m r address value) h
+  pub store-unset : flag set ≡ false → told (refused noRegime) m ≡ storeIn ours (regimeIn regime set) m address value
+  store-unset f = ap storing (sym f)
 
-    pub stores-refused : (x : Refusal) → sessionStoreCheck (length m) (r .pool) address ≡ Refused x → Stores regime set address value m m (refused (numberOf x))
-    stores-refused x h s q1 q2 = sym (store-by s q1 q2 (Refused x) h)
+  pub store-set : flag set ≡ true → (r : Regime) → r ≡ regimeOf regime → (x : Checked) → sessionStoreCheck (length m) (r .pool) address ≡ x
+      → storeBy ours r m address value x ≡ storeIn ours (regimeIn regime set) m address value
+  unfolding sessionStoreCheck
+  store-set f r q x h =
+      ap (storeBy ours r m address value) (sym h ∙ first-append (memoryRows (length m) (r .pool)) (storeRows (r .pool) address))
+      ∙ ap (λ (y : Regime). storeIn ours (some y) m address value) q ∙ ap storing (sym f)
 
-    pub stores-accepted : sessionStoreCheck (length m) (r .pool) address ≡ Accepted → (m′ : List ℕ) → m′ ≡ put ours r m (offsetOf r address) value → Stores regime set address value m m′ done
-    stores-accepted h m′ e s q1 q2 = ap (λ (l : List ℕ). stepped s l done) e ∙ sym (store-by s q1 q2 Accepted h)
+pub store-leaves : (s : SessionStruct) (m : List ℕ) (address value : ℕ) (t : Told Reply) → t ≡ storeIn ours (regimeIn (s .regime) (s .set)) m address value
+    → left s (t .memory) (t .reply) ≡ leaves s m (store address value)
+store-leaves s m address value t e = ap (λ (x : Told Reply). left s (x .memory) (x .reply)) e
 
--- ---- an access by its page's entry
+-- ---- an access, by the one entry that it can change
 
-module _ (regime : RegimeWords) (set : ℕ) (e : EntryStruct) (a : Access) (m : List ℕ) where
-  pub fills-unset : flag set ≡ false → Fills regime set e a m e m (refused noRegime)
-  fills-unset f s q1 q2 q3 =
-      ap (λ (t : SessionStruct). stepped t m (refused noRegime)) (with-same s a e q3) ∙ sym (access-unset s m (ap flag q2 ∙ f) a)
+keep-at : (l : List Entry) (page : ℕ) (x : Entry) → getD l (entryOf page) empty ≡ x → (k : Option Leaf) → setAt l (entryOf page) (keptIn x page k) ≡ keep l page k
+keep-at l page x q none = subst (λ (y : Entry). setAt l (entryOf page) y ≡ l) q (set-same l (entryOf page) empty)
+keep-at l page x q (some leaf) = refl
 
-  module _ (f : flag set ≡ true) where
-    checked : (s : SessionStruct) → s .regime ≡ regime → s .set ≡ set → (x : Checked) → sessionAccessCheck (length m) (regimeOf regime .pool) a ≡ x
-        → accessCall ours (sessionView s) m a ≡ accessBy ours (sessionView s) m (regimeOf (s .regime)) a x
-    checked s q1 q2 x h =
-        access-checked s m (ap flag q2 ∙ f) a
-        ∙ ap (accessBy ours (sessionView s) m (regimeOf (s .regime)) a) (ap (λ (w : RegimeWords). sessionAccessCheck (length m) (regimeOf w .pool) a) q1 ∙ h)
+-- an access of the model, by its page's entry
+pub access-learn : (s : Session) (m : List ℕ) (a : Access) (g : Option Regime) → learn ours s (pageFor a) (accessIn ours g m a (getD (s .entries) (entryFor a) empty)) ≡ accessWith ours s m a g
+access-learn s m a none = refl
+access-learn s m a (some r) = refl
 
-    pub fills-refused : (x : Refusal) → sessionAccessCheck (length m) (regimeOf regime .pool) a ≡ Refused x → Fills regime set e a m e m (refused (numberOf x))
-    fills-refused x h s q1 q2 q3 =
-        ap (λ (t : SessionStruct). stepped t m (refused (numberOf x))) (with-same s a e q3) ∙ sym (checked s q1 q2 (Refused x) h)
-
-    pub fills-accepted : sessionAccessCheck (length m) (regimeOf regime .pool) a ≡ Accepted → (e′ : EntryStruct) (m′ : List ℕ) (reply : Reply) → Answers (regimeOf regime) e a m e′ m′ reply
-        → Fills regime set e a m e′ m′ reply
-    fills-accepted h e′ m′ reply w s q1 q2 q3 =
-        subst (λ (x : RegimeWords). stepped (withEntry s (entryFor a) e′) m′ reply ≡ accessHeld ours (sessionView s) m (regimeOf x) a (held (sessionView s .entries) (ours .page (regimeOf x) a))) (sym q1) (w s q3)
-        ∙ sym (checked s q1 q2 Accepted h)
-
--- a hit is the call: of a reply that the entry gives
 module _ (s : SessionStruct) (m : List ℕ) (a : Access) where
-  reply-by : (g : Option Regime) → sessionView s .regime ≡ g → (reply : Reply) → some reply ≡ entryReply (length m) a (entryView (getD (s .entries) (entryFor a) noEntry)) g
-      → stepped s m reply ≡ accessCall ours (sessionView s) m a
-  reply-by none q reply h = clash (cc)
-  reply-by (some r) q reply h = by (sessionAccessCheck (length m) (r .pool) a) refl h
-    where
-      by : (x : Checked) → sessionAccessCheck (length m) (r .pool) a ≡ x → some reply ≡ checkedReply x (entryAnswer ours r a (entryView (getD (s .entries) (entryFor a) noEntry)))
-          → stepped s m reply ≡ accessCall ours (sessionView s) m a
-      by (Refused x) e h = clash (cc)
-      by Accepted e h =
-          hit-outcome s m r a reply h
-          ∙ sym (ap (accessIn ours (sessionView s) m a) q ∙ ap (accessBy ours (sessionView s) m r a) (checks-apart (length m) r a ∙ e))
+  abbrev pub given : Walked
+  given = accessIn ours (regimeIn (s .regime) (s .set)) m a (entryView (entryIn s a))
 
-  pub reply-is-call : (reply : Reply) → some reply ≡ entryReply (length m) a (entryView (getD (s .entries) (entryFor a) noEntry)) (regimeIn (s .regime) (s .set)) → stepped s m reply ≡ accessCall ours (sessionView s) m a
-  reply-is-call reply h = reply-by (regimeIn (s .regime) (s .set)) refl reply h
+  -- the entry of the page, in the model's values
+  entry-view : getD (sessionView s .entries) (entryFor a) empty ≡ entryView (entryIn s a)
+  entry-view = List·getD-map entryView (s .entries) (entryFor a) noEntry
 
--- where there is one, the entry's reply is the entry's answer
-pub hit-reply : (n : ℕ) (a : Access) (e : Entry) (regime : RegimeWords) (set : ℕ) → isHit (hitKindIn (entryReply n a e (regimeIn regime set))) ≡ true → entryReply n a e (regimeIn regime set) ≡ entryAnswer ours (regimeOf regime) a e
-hit-reply n a e regime set t = by (flag set) t
-  where
-    accepted : (x : Checked) → isHit (hitKindIn (checkedReply x (entryAnswer ours (regimeOf regime) a e))) ≡ true → checkedReply x (entryAnswer ours (regimeOf regime) a e) ≡ entryAnswer ours (regimeOf regime) a e
-    accepted Accepted t = refl
-    accepted (Refused x) t = clash (cc)
+  pub access-is : learn ours (sessionView s) (pageFor a) given ≡ accessCall ours (sessionView s) m a
+  access-is =
+      ap (λ (e : Entry). learn ours (sessionView s) (pageFor a) (accessIn ours (regimeIn (s .regime) (s .set)) m a e)) (sym entry-view)
+      ∙ access-learn (sessionView s) m a (regimeIn (s .regime) (s .set))
 
-    by : (b : Bool) → isHit (hitKindIn (entryReply n a e (pick b (some (regimeOf regime)) none))) ≡ true → entryReply n a e (pick b (some (regimeOf regime)) none) ≡ entryAnswer ours (regimeOf regime) a e
-    by true t = accepted (sessionAccessCheck n (regimeOf regime .pool) a) t
-    by false t = clash (cc)
+  pub entry-leaves : (x : EntryLeft Reply) → x ≡ accessedEntry (s .regime) (s .set) (entryIn s a) m a → left (withEntry s (entryFor a) (x .entry)) (x .memory) (x .reply) ≡ leaves s m (access a)
+  entry-leaves x e =
+      ap (λ (y : EntryLeft Reply). left (withEntry s (entryFor a) (y .entry)) (y .memory) (y .reply)) e
+      ∙ ap (λ (y : Stepped). left (accessedSession s m a) (y .memory) (y .reply)) access-is
 
--- and the call is accepted, so its size is positive
-pub hit-size : (n : ℕ) (a : Access) (e : Entry) (regime : RegimeWords) (set : ℕ) → isHit (hitKindIn (entryReply n a e (regimeIn regime set))) ≡ true → 0 < a .size
-hit-size n a e regime set t = by (flag set) t
-  where
-    accepted : (x : Checked) → sessionAccessCheck n (regimeOf regime .pool) a ≡ x → isHit (hitKindIn (checkedReply x (entryAnswer ours (regimeOf regime) a e))) ≡ true → 0 < a .size
-    accepted Accepted h t = access-accepted n (regimeOf regime .pool) a h .1
-    accepted (Refused x) h t = clash (cc)
+  -- an entry put where it lies already
+  with-same : withEntry s (entryFor a) (entryIn s a) ≡ s
+  with-same = ap (λ (l : List EntryStruct). let t : SessionStruct = record { regime = s .regime; entries = l; set = s .set } in t) (set-same (s .entries) (entryFor a) noEntry)
 
-    by : (b : Bool) → isHit (hitKindIn (entryReply n a e (pick b (some (regimeOf regime)) none))) ≡ true → 0 < a .size
-    by true t = accepted (sessionAccessCheck n (regimeOf regime .pool) a) refl t
-    by false t = clash (cc)
+  -- where nothing is kept, the session stays as it was
+  pub unkept-same : given .kept ≡ none → accessedSession s m a ≡ s
+  unkept-same q = ap (λ (k : Option Leaf). withEntry s (entryFor a) (filledBy (entryIn s a) a (record { reply = given .reply; memory = given .memory; kept = k }) .entry)) q ∙ with-same
+
+  -- a reply that the entry gives
+  pub hit-leaves : (reply : Reply) → some reply ≡ entryReply (length m) a (entryView (entryIn s a)) (regimeIn (s .regime) (s .set)) → left s m reply ≡ leaves s m (access a)
+  hit-leaves reply h =
+      ap (λ (t : SessionStruct). left t m reply) (sym with-same)
+      ∙ entry-leaves (entryLeft (entryIn s a) m reply) (ap (filledBy (entryIn s a) a) (hit-is-access (regimeIn (s .regime) (s .set)) m a (entryView (entryIn s a)) reply h))
+
+  access-view : sessionView (accessedSession s m a) ≡ accessCall ours (sessionView s) m a .session
+  access-view =
+      ap (λ (l : List Entry). let t : Session = record { regime = sessionView s .regime; entries = l } in t)
+      (map-set entryView (s .entries) (entryFor a) (accessedEntry (s .regime) (s .set) (entryIn s a) m a .entry)
+      ∙ ap (setAt (sessionView s .entries) (entryFor a)) (accessed-view (regimeIn (s .regime) (s .set)) m a (entryIn s a))
+      ∙ keep-at (sessionView s .entries) (pageFor a) (entryView (entryIn s a)) entry-view (given .kept))
+      ∙ ap (λ (y : Stepped). y .session) access-is
+
+-- ---- what a call leaves is the model's call, in the model's values
+
+session-view : (s : SessionStruct) (m : List ℕ) (c : Call) → viewed (leaves s m c) .session ≡ call ours (sessionView s) m c .session
+session-view s m (setRegime r) = set-view s m r (regimeCheck (length m) r) ∙ ap (λ (y : Stepped). y .session) (sym (set-checked (sessionView s) m r))
+session-view s m (access a) = access-view s m a
+session-view s m (store address value) = refl
+session-view s m dropAll = refl
+
+pub viewed-leaves : (s : SessionStruct) (m : List ℕ) (c : Call) → viewed (leaves s m c) ≡ call ours (sessionView s) m c
+viewed-leaves s m c = ap (λ (t : Session). left t (call ours (sessionView s) m c .memory) (call ours (sessionView s) m c .reply)) (session-view s m c)

@@ -1,4 +1,3 @@
-pub mod Deciding
-pub mod Walking
-pub mod Entries
+pub mod Lists
 pub mod Calls
+pub mod Promises

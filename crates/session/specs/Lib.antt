@@ -1,4 +1,2 @@
-pub mod Replies
 pub mod Model
-pub mod Ours
 pub mod View

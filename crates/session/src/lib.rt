@@ -1,41 +1,20 @@
-// The session: 64 TLB entries, and the four calls. Each takes the session by value and hands it back.
+// The session: a regime and 64 TLB entries, and the four calls. Each takes the session by value and hands it back.
 ghost use mathlib.Core.Path.{_≡_};
-ghost use mathlib.Core.List.{List};
-ghost use mathlib.Core.Bool.{true};
-ghost use mathlib.Core.Option.{some};
-ghost use Prim.Native.Nat.{ℕ, _+_, _≤_, _<_};
-ghost use lib.ListN.{length};
 ghost use Rattle.vmsa.specs.Answers.{view};
-ghost use Rattle.walk.specs.Walk.{keptLeaf};
-ghost use Rattle.session.specs.Replies.{done, replyOf, replyTo};
-ghost use Rattle.session.specs.Model.{fresh, entryCount, heldIn, walked as walkedOf, setCall, accessCall, storeCall, dropCall};
-ghost use Rattle.session.specs.Ours.{usable as usableOf, ours};
-ghost use Rattle.session.specs.View.{noEntry, entryView, regimeIn, sessionView, stepped, heldLeaf, entryAnswer, askedReply, Low, walkedView, entryFor, keptIn, Answers, Fills, Stores, entryReply, hitKindIn};
+ghost use Rattle.tlb.specs.Replies.{told, replyOf, replyTo};
+ghost use Rattle.tlb.specs.Ours.{ours};
+ghost use Rattle.tlb.specs.Entries.{regimeIn};
+ghost use Rattle.session.specs.Model.{left, setRegime, access, store, storeIn};
+ghost use Rattle.session.specs.View.{emptySession, emptied, leaves};
 use checks::Checked;
-use decision::HitKind;
+use tlb::ENTRIES;
+use tlb::Entry;
 use vmsa::Access;
 use vmsa::Answer;
-use vmsa::Fault;
-use vmsa::FaultKind;
-use vmsa::Leaf;
 use vmsa::PhysAddr;
 use vmsa::Refusal;
 use vmsa::Regime;
 use vmsa::RegimeWords;
-use vmsa::Success;
-use walk::Kept;
-
-// How many TLB entries a session has; specs/Model.antt has the same number.
-pub const ENTRIES: usize = 64;
-
-// A TLB entry: the leaf that it holds of a page, where held is not 0. All numbers, so that any bytes are an entry.
-#[repr(C)]
-pub struct Entry {
-    pub page: u64,
-    pub value: u64,
-    pub left: u8,
-    pub held: u8,
-}
 
 // A session: the regime last accepted, where set is not 0, and the entries. All numbers, so that any bytes are a session.
 #[repr(C)]
@@ -43,18 +22,6 @@ pub struct Session {
     pub regime: RegimeWords,
     pub entries: [Entry; ENTRIES],
     pub set: u8,
-}
-
-// What an entry holds of a page.
-pub enum Held {
-    Leaf(Leaf),
-    Nothing,
-}
-
-// What an entry answers an access; or the walk does.
-pub enum Asked {
-    Answered(Answer),
-    Walk,
 }
 
 // What a set regime or a store hands back.
@@ -69,209 +36,6 @@ pub struct Accessed {
     pub answer: Answer,
 }
 
-// What an access leaves of its page's entry, and its answer.
-pub struct Filled {
-    pub entry: Entry,
-    pub answer: Answer,
-}
-
-impl Entry {
-    // The empty entry.
-    pub fn empty() -> Self
-        ensures { λ e. ⌜ e ≡ noEntry ⌝ }
-    {
-        Entry {
-            page: 0,
-            value: 0,
-            left: 0,
-            held: 0,
-        }
-    }
-
-    // The leaf that it holds of a page.
-    pub fn held_of(self, page: u64) -> Held
-        ensures { λ h. ⌜ heldLeaf h ≡ heldIn (entryView self) page ⌝ }
-    {
-        if (self.held != 0) & (self.left <= 3) {
-            if self.page == page {
-                return Held::Leaf(Leaf {
-                    value: self.value,
-                    left: self.left,
-                });
-            }
-            return Held::Nothing;
-        }
-        Held::Nothing
-    }
-
-    // What it answers an access: the held leaf's answer with 0 reads, unless the page would become dirty.
-    pub fn ask(self, r: Regime, a: Access) -> Asked
-        requires { ⌜ 0 < a .size ⌝ }
-        ensures { λ x. ⌜ askedReply x ≡ entryAnswer ours r a (entryView self) ⌝ }
-    {
-        let page = geometry::page_of(vmsa::PAGE_BITS, a.address);
-        let Held::Leaf(leaf) = self.held_of(page) else {
-            return Asked::Walk;
-        };
-        let verdict = decision::judge(r, a, leaf, 0);
-        let answer = verdict.answer;
-        if answer.dirtied() {
-            return Asked::Walk;
-        }
-        Asked::Answered(answer)
-    }
-
-    // How it answers an access: one of another page, or one that would make the page dirty, misses.
-    pub fn hit_kind(self, r: Regime, a: Access) -> HitKind
-        requires { ⌜ 0 < a .size ⌝ }
-        ensures { λ s. ⌜ s ≡ hitKindIn (entryAnswer ours r a (entryView self)) ⌝ }
-    {
-        let page = geometry::page_of(vmsa::PAGE_BITS, a.address);
-        let Held::Leaf(leaf) = self.held_of(page) else {
-            return HitKind::Miss;
-        };
-        decision::hit_kind(r, a, leaf)
-    }
-
-    // The fault that it answers with, where it does.
-    pub fn fault(self, r: Regime, a: Access) -> Fault
-        requires { ⌜ (0 < a .size) × (hitKindIn (entryAnswer ours r a (entryView self)) ≡ HitKind.Fault) ⌝ }
-        ensures { λ f. ⌜ some (replyOf (view (Answer.Fault f))) ≡ entryAnswer ours r a (entryView self) ⌝ }
-    {
-        let leaf = Leaf {
-            value: self.value,
-            left: self.left,
-        };
-        decision::fault(r, a, leaf, 0)
-    }
-
-    // The success that it answers with, where it does.
-    pub fn success(self, r: Regime, a: Access) -> Success
-        requires { ⌜ hitKindIn (entryAnswer ours r a (entryView self)) ≡ HitKind.Success ⌝ }
-        ensures { λ s. ⌜ some (replyOf (view (Answer.Success s))) ≡ entryAnswer ours r a (entryView self) ⌝ }
-    {
-        let leaf = Leaf {
-            value: self.value,
-            left: self.left,
-        };
-        decision::success(r, a, leaf, 0)
-    }
-
-    // The entry with a leaf that may be remembered of a page.
-    fn keep(self, page: u64, kept: Kept) -> Self
-        requires { ⌜ Low kept ⌝ }
-        ensures { λ e. ⌜ entryView e ≡ keptIn (entryView self) page (keptLeaf kept) ⌝ }
-    {
-        let Kept::Leaf(leaf) = kept else {
-            return self;
-        };
-        Entry {
-            page: page,
-            value: leaf.value,
-            left: leaf.left,
-            held: 1,
-        }
-    }
-}
-
-// Whether rows 3 and 4 let a regime through.
-fn usable(r: Regime) -> bool
-    ensures { λ b. ⌜ b ≡ usableOf r ⌝ }
-{
-    !(refusals::sizes_bad(r) | refusals::roots_bad(r))
-}
-
-// The walk of an access that no entry answers, in the pool's part of the memory.
-pub fn miss(memory: &mut [u8], r: Regime, a: Access) -> walk::Walked
-    requires { ⌜ (r .pool .start + r .pool .length ≤ length (now memory)) × (0 < a .size) ⌝ }
-    ensures { λ w. ⌜ (walkedView w (now (memory .exit)) ≡ walkedOf ours r (now (memory .entry)) a) × Low (w .kept) ⌝ }
-{
-    if usable(r) {
-        let start = r.pool.start;
-        let end = start + r.pool.length;
-        return walk::walk_leaf(&mut memory[start..end], r, a);
-    }
-    walk::Walked {
-        answer: Answer::Fault(Fault {
-            kind: FaultKind::Translation,
-            level: 0,
-            cacheable: false,
-            reads: 0,
-        }),
-        kept: Kept::Nothing,
-    }
-}
-
-// The number of the entry of an access's page.
-pub fn entry_of(a: Access) -> usize
-    ensures { λ i. ⌜ (i ≡ entryFor a) × (i < entryCount) ⌝ }
-{
-    (geometry::page_of(vmsa::PAGE_BITS, a.address) as usize) % ENTRIES
-}
-
-// An access past its checks: its page's entry answers, or else the walk, whose leaf is kept.
-fn answer_entry(entry: Entry, memory: &mut [u8], r: Regime, a: Access) -> Filled
-    requires { ⌜ (r .pool .start + r .pool .length ≤ length (now memory)) × (0 < a .size) ⌝ }
-    ensures { λ x. ⌜ Answers r entry a (now (memory .entry)) (x .entry) (now (memory .exit)) (replyOf (view (x .answer))) ⌝ }
-{
-    match entry.ask(r, a) {
-        Asked::Answered(answer) => Filled {
-            entry: entry,
-            answer: answer,
-        },
-        Asked::Walk => {
-            let missed = miss(memory, r, a);
-            let kept = missed.kept;
-            let answer = missed.answer;
-            let page = geometry::page_of(vmsa::PAGE_BITS, a.address);
-            Filled {
-                entry: entry.keep(page, kept),
-                answer: answer,
-            }
-        }
-    }
-}
-
-// An access in every session that has this regime, and this entry for the access's page.
-pub fn access_entry(
-    regime: RegimeWords,
-    set: u8,
-    entry: Entry,
-    memory: &mut [u8],
-    a: Access,
-) -> Filled
-    ensures { λ x. ⌜ Fills regime set entry a (now (memory .entry)) (x .entry) (now (memory .exit)) (replyOf (view (x .answer))) ⌝ }
-{
-    if set == 0 {
-        return Filled {
-            entry: entry,
-            answer: Answer::Refused(Refusal::NoRegime),
-        };
-    }
-    let r = regime.regime();
-    match checks::check_session_access(memory.len(), r.pool, a) {
-        Checked::Refused(refusal) => Filled {
-            entry: entry,
-            answer: Answer::Refused(refusal),
-        },
-        Checked::Accepted => answer_entry(entry, memory, r, a),
-    }
-}
-
-// How the entry answers an access in such a session, over n bytes of memory; one that is refused misses.
-pub fn hit_kind(regime: RegimeWords, set: u8, entry: Entry, n: usize, a: Access) -> HitKind
-    ensures { λ s. ⌜ s ≡ hitKindIn (entryReply n a (entryView entry) (regimeIn regime set)) ⌝ }
-{
-    if set == 0 {
-        return HitKind::Miss;
-    }
-    let r = regime.regime();
-    match checks::check_session_access(n, r.pool, a) {
-        Checked::Refused(_) => HitKind::Miss,
-        Checked::Accepted => entry.hit_kind(r, a),
-    }
-}
-
 // A store in every session that has this regime, which stays as it was: refused with 9, 1 or 8, or else done.
 pub fn store_in(
     regime: RegimeWords,
@@ -280,7 +44,7 @@ pub fn store_in(
     address: PhysAddr,
     value: u64,
 ) -> Checked
-    ensures { λ x. ⌜ Stores regime set (address .0) value (now (memory .entry)) (now (memory .exit)) (replyTo x) ⌝ }
+    ensures { λ x. ⌜ told (replyTo x) (now (memory .exit)) ≡ storeIn ours (regimeIn regime set) (now (memory .entry)) (address .0) value ⌝ }
 {
     if set == 0 {
         return Checked::Refused(Refusal::NoRegime);
@@ -301,7 +65,7 @@ pub fn store_in(
 impl Session {
     // The fresh session: no regime, and every entry empty.
     pub fn empty() -> Self
-        ensures { λ s. ⌜ sessionView s ≡ fresh ⌝ }
+        ensures { λ s. ⌜ s ≡ emptySession ⌝ }
     {
         let entry = Entry::empty();
         Session {
@@ -313,7 +77,7 @@ impl Session {
 
     // Sets the regime and empties every entry, after checks 1 to 5.
     pub fn set_regime(self, memory: &[u8], r: Regime) -> Changed
-        ensures { λ x. ⌜ stepped (x .session) (now (memory .entry)) (replyTo (x .reply)) ≡ setCall ours (sessionView self) (now (memory .entry)) r ⌝ }
+        ensures { λ x. ⌜ left (x .session) (now (memory .entry)) (replyTo (x .reply)) ≡ leaves self (now (memory .entry)) (setRegime r) ⌝ }
     {
         match checks::check_regime(memory.len(), r) {
             Checked::Refused(refusal) => Changed {
@@ -338,7 +102,7 @@ impl Session {
 
     // Empties every entry ("drop all").
     pub fn invalidate_all(mut self) -> Self
-        ensures { λ s. ⌜ ((m : List ℕ) → stepped s m done ≡ dropCall ours (sessionView self) m) ⌝ }
+        ensures { λ s. ⌜ s ≡ emptied self ⌝ }
     {
         let entry = Entry::empty();
         self.entries = [entry; ENTRIES];
@@ -347,11 +111,11 @@ impl Session {
 
     // An access: refused with 9, 1, 6 or 7, or else answered.
     pub fn access(mut self, memory: &mut [u8], a: Access) -> Accessed
-        ensures { λ x. ⌜ stepped (x .session) (now (memory .exit)) (replyOf (view (x .answer))) ≡ accessCall ours (sessionView self) (now (memory .entry)) a ⌝ }
+        ensures { λ x. ⌜ left (x .session) (now (memory .exit)) (replyOf (view (x .answer))) ≡ leaves self (now (memory .entry)) (access a) ⌝ }
     {
-        let i = entry_of(a);
+        let i = tlb::entry_of(a);
         let entries = self.entries;
-        let filled = access_entry(self.regime, self.set, entries[i], memory, a);
+        let filled = tlb::access_entry(self.regime, self.set, entries[i], memory, a);
         let entry = filled.entry;
         let answer = filled.answer;
         self.entries[i] = entry;
@@ -363,7 +127,7 @@ impl Session {
 
     // Stores one descriptor at a physical address in the pool: refused with 9, 1 or 8, or else done.
     pub fn store(self, memory: &mut [u8], address: PhysAddr, value: u64) -> Changed
-        ensures { λ x. ⌜ stepped (x .session) (now (memory .exit)) (replyTo (x .reply)) ≡ storeCall ours (sessionView self) (now (memory .entry)) (address .0) value ⌝ }
+        ensures { λ x. ⌜ left (x .session) (now (memory .exit)) (replyTo (x .reply)) ≡ leaves self (now (memory .entry)) (store (address .0) value) ⌝ }
     {
         let reply = store_in(self.regime, self.set, memory, address, value);
         Changed {

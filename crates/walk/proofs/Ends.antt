@@ -36,7 +36,7 @@ use Rattle.lookup.proofs.Reach.{Good, Reached, locate-good, InPool, in-pool}
 use Rattle.decision.specs.declared.Verdict.{Verdict}
 use Rattle.decision.specs.Decision.{decision, seen}
 use Rattle.walk.proofs.Parts.{put-back}
-use Rattle.walk.specs.Walk.{Outcome, traced, outcome, settled, walkPool, keptOf, keptPool, walk}
+use Rattle.walk.specs.Walk.{Outcome, traced, outcome, applied, walkPool, keptOf, keptPool, walk}
 
 -- a trace that ends in this leaf, and one that ends in this fault
 pub record AtLeaf (t : Trace) (l : Located) : Type 0 where
@@ -90,7 +90,7 @@ module _ (r : Regime) (a : Access) (pool : List ℕ) (l : Located) (q : l ≡ sh
   unfolding walkPool
   fault-outcome kind h = let f = at-fault (traced r pool (a .address .0)) l kind q h in rw (f .reads, f .end)
 
-  opened : l .ending ≡ ending.Leaf → walkPool r a pool ≡ settled pool (l .address .0 - r .pool .address .0) (decision r a (l .leaf) (l .reads))
+  opened : l .ending ≡ ending.Leaf → walkPool r a pool ≡ applied pool (l .address .0 - r .pool .address .0) (decision r a (l .leaf) (l .reads))
   unfolding walkPool
   opened h = let f = at-leaf (traced r pool (a .address .0)) l q h in rw (f .reads, f .end)
 

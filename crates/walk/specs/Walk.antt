@@ -31,21 +31,21 @@ abbrev pub outcome : Answer → List ℕ → Outcome
 outcome answer bytes = record { result = view answer; bytes = bytes }
 
 -- the pool's bytes, and the memory with these bytes for the pool (01, "The guest, its pool and its regime")
-abbrev pub poolOf : Pool → List ℕ → List ℕ
-poolOf p memory = take (p .length) (drop (p .start) memory)
+abbrev pub poolBytes : Pool → List ℕ → List ℕ
+poolBytes p memory = take (p .length) (drop (p .start) memory)
 
-abbrev pub withPool : Pool → List ℕ → List ℕ → List ℕ
-withPool p memory bytes = take (p .start) memory ++ bytes ++ drop (p .start + p .length) memory
+abbrev pub withPoolBytes : Pool → List ℕ → List ℕ → List ℕ
+withPoolBytes p memory bytes = take (p .start) memory ++ bytes ++ drop (p .start + p .length) memory
 
 -- what a leaf decides, with its new value put where the descriptor lies
-abbrev pub settled : List ℕ → ℕ → Decision → Outcome
-settled pool at d = record { result = d .result; bytes = pick (d .update) (put pool at (d .value)) pool }
+abbrev pub applied : List ℕ → ℕ → Decision → Outcome
+applied pool at d = record { result = d .result; bytes = pick (d .update) (put pool at (d .value)) pool }
 
 -- the end of steps 1 to 5 taken to the answer; a fault may not be remembered and changes nothing
 abbrev pub concluded : Regime → Access → List ℕ → ℕ → End → Outcome
 concluded r a pool reads (fault kind level) =
     record { result = faulted (record { code = codeOf kind level; level = level; cacheable = false; reads = reads }); bytes = pool }
-concluded r a pool reads (leaf at v left) = settled pool (at - r .pool .address .0) (decision r a (record { value = v; left = left }) reads)
+concluded r a pool reads (leaf at v left) = applied pool (at - r .pool .address .0) (decision r a (record { value = v; left = left }) reads)
 
 -- the descriptors that a walk visits in the pool, and their end
 unfoldable pub traced : Regime → List ℕ → ℕ → Trace
@@ -75,8 +75,8 @@ keptLeaf kept.Nothing = none
 abbrev pub checked : Regime → Access → List ℕ → Checked → Outcome
 checked r a memory (Refused x) = record { result = refused (numberOf x); bytes = memory }
 checked r a memory Accepted = record {
-  result = walkPool r a (poolOf (r .pool) memory) .result;
-  bytes = withPool (r .pool) memory (walkPool r a (poolOf (r .pool) memory) .bytes);
+  result = walkPool r a (poolBytes (r .pool) memory) .result;
+  bytes = withPoolBytes (r .pool) memory (walkPool r a (poolBytes (r .pool) memory) .bytes);
 }
 
 -- the plain walk over the lent memory

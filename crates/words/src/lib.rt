@@ -3,13 +3,15 @@ ghost use mathlib.Core.Path.{_≡_};
 ghost use Prim.Native.Nat.{_<_};
 ghost use Rattle.vmsa.specs.Answers.{refused, view};
 ghost use Rattle.vmsa.specs.Words.{regimeOf};
-ghost use Rattle.session.specs.Replies.{replyTo};
-ghost use Rattle.session.specs.Model.{entryCount};
-ghost use Rattle.session.specs.View.{entryView, regimeIn, entryFor, entryReply};
-ghost use Rattle.words.specs.Words.{kindOf, accessOf, wordsOf, told, walkTold, refusalByte, setWords, hitOf, FillsWords, StoresWords};
+ghost use Rattle.tlb.specs.Replies.{told, replyTo};
+ghost use Rattle.tlb.specs.Walker.{entryCount};
+ghost use Rattle.tlb.specs.Ours.{ours};
+ghost use Rattle.tlb.specs.Entries.{entryView, regimeIn, entryFor, entryLeft, accessedEntry, entryReply};
+ghost use Rattle.session.specs.Model.{storeIn};
+ghost use Rattle.words.specs.Words.{accessKind, accessOf, wordsOf, walkWords, refusalByte, entryReplied, numbered, setWords, hitOf};
 use checks::Checked;
 use decision::HitKind;
-use session::Entry;
+use tlb::Entry;
 use vmsa::Access;
 use vmsa::AccessKind;
 use vmsa::Answer;
@@ -20,7 +22,7 @@ use vmsa::RegimeWords;
 use vmsa::Success;
 use vmsa::VirtAddr;
 
-// An access. kind: 0 read, 1 write, 2 update, 3 fetch, 4 probe-read, 5 and above probe-write.
+// An access. kind: 0 read, 1 write, 2 update, 3 fetch, 4 probe-read, 5 probe-write; a number above is taken as an update.
 #[repr(C)]
 pub struct AccessWords {
     pub address: u64,
@@ -58,14 +60,14 @@ pub struct FilledWords {
     pub answer: AnswerWords,
 }
 
-// Whether an access is answered by its page's entry with a success, and the answer.
+// Whether an access is answered by its page's entry, with a success or a fault, and the answer.
 pub struct Hit {
     pub hit: bool,
     pub answer: AnswerWords,
 }
 
-fn kind_of(n: u8) -> AccessKind
-    ensures { λ k. ⌜ k ≡ kindOf n ⌝ }
+fn access_kind(n: u8) -> AccessKind
+    ensures { λ k. ⌜ k ≡ accessKind n ⌝ }
 {
     if n == 0 {
         return AccessKind::Read;
@@ -73,22 +75,22 @@ fn kind_of(n: u8) -> AccessKind
     if n == 1 {
         return AccessKind::Write;
     }
-    if n == 2 {
-        return AccessKind::Update;
-    }
     if n == 3 {
         return AccessKind::Fetch;
     }
     if n == 4 {
         return AccessKind::ProbeRead;
     }
-    AccessKind::ProbeWrite
+    if n == 5 {
+        return AccessKind::ProbeWrite;
+    }
+    AccessKind::Update
 }
 
 fn access_of(w: AccessWords) -> Access
     ensures { λ a. ⌜ a ≡ accessOf w ⌝ }
 {
-    let kind = kind_of(w.kind);
+    let kind = access_kind(w.kind);
     Access {
         address: VirtAddr(w.address),
         size: w.size,
@@ -167,7 +169,7 @@ pub fn words_of(answer: Answer) -> AnswerWords
 
 // The plain walk of an access in the lent memory.
 pub fn walk_words(memory: &mut [u8], regime: RegimeWords, access: AccessWords) -> AnswerWords
-    ensures { λ w. ⌜ told w (now (memory .exit)) ≡ walkTold (regimeOf regime) (accessOf access) (now (memory .entry)) ⌝ }
+    ensures { λ w. ⌜ told w (now (memory .exit)) ≡ walkWords (regimeOf regime) (accessOf access) (now (memory .entry)) ⌝ }
 {
     let r = regime.regime();
     let a = access_of(access);
@@ -199,7 +201,7 @@ pub fn set_words(n: usize, regime: RegimeWords) -> SetWords
 pub fn entry_of(access: AccessWords) -> usize
     ensures { λ i. ⌜ (i ≡ entryFor (accessOf access)) × (i < entryCount) ⌝ }
 {
-    session::entry_of(access_of(access))
+    tlb::entry_of(access_of(access))
 }
 
 fn no_answer() -> AnswerWords
@@ -227,7 +229,7 @@ pub fn hit_entry(regime: RegimeWords, set: u8, entry: Entry, n: usize, access: A
 {
     let a = access_of(access);
     let r = regime.regime();
-    match session::hit_kind(regime, set, entry, n, a) {
+    match tlb::hit_kind(regime, set, entry, n, a) {
         HitKind::Success => Hit {
             hit: true,
             answer: success_words(entry.success(r, a)),
@@ -251,10 +253,10 @@ pub fn access_entry(
     memory: &mut [u8],
     access: AccessWords,
 ) -> FilledWords
-    ensures { λ x. ⌜ FillsWords regime set entry (accessOf access) (now (memory .entry)) (x .entry) (now (memory .exit)) (x .answer) ⌝ }
+    ensures { λ x. ⌜ entryLeft (x .entry) (now (memory .exit)) (x .answer) ≡ entryReplied (accessedEntry regime set entry (now (memory .entry)) (accessOf access)) ⌝ }
 {
     let a = access_of(access);
-    let filled = session::access_entry(regime, set, entry, memory, a);
+    let filled = tlb::access_entry(regime, set, entry, memory, a);
     let after = filled.entry;
     let answer = filled.answer;
     FilledWords {
@@ -265,7 +267,7 @@ pub fn access_entry(
 
 // A store of one descriptor in every session that has this regime: 0, or the number of the refusal, 9, 1 or 8.
 pub fn store_words(regime: RegimeWords, set: u8, memory: &mut [u8], address: u64, value: u64) -> u8
-    ensures { λ n. ⌜ StoresWords regime set address value (now (memory .entry)) (now (memory .exit)) n ⌝ }
+    ensures { λ n. ⌜ told n (now (memory .exit)) ≡ numbered (storeIn ours (regimeIn regime set) (now (memory .entry)) address value) ⌝ }
 {
     refusal_byte(session::store_in(regime, set, memory, PhysAddr(address), value))
 }

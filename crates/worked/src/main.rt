@@ -2,7 +2,7 @@
 ghost use mathlib.Core.Path.{_≡_};
 ghost use Rattle.vmsa.specs.Settings.{withPool};
 ghost use Rattle.walk.specs.Walk.{outcome, walk as walkOf};
-ghost use Rattle.cases.specs.Cases.{base as baseOf, poolOf, eight as eightOf, access as accessOf, usual as usualOf, puts, tablesWith};
+ghost use Rattle.cases.specs.Cases.{base as baseOf, workedPool, eight as eightOf, access as accessOf, usual as usualOf, puts, tablesWith};
 ghost use Rattle.worked.specs.Room.{Roomy};
 use libc::STDOUT_FILENO;
 use session::Session;
@@ -46,7 +46,7 @@ fn eight(attribute: u8) -> u64
 
 // The regime, with a pool of this length from the memory's first byte on.
 fn base(length: usize) -> Regime
-    ensures { λ r. ⌜ r ≡ withPool baseOf (poolOf length) ⌝ }
+    ensures { λ r. ⌜ r ≡ withPool baseOf (workedPool length) ⌝ }
 {
     let root = PhysAddr(POOL_ADDRESS);
     let pool = Pool {

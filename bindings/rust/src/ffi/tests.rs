@@ -130,24 +130,38 @@ fn flags_are_true_unless_0() {
 
 #[test]
 fn kinds_above_5() {
-    let probe = |kind| Access {
-        size: 1,
-        kind,
-        ..READ
+    // A walk, and an access in a session that holds the clean page: the
+    // answers, and the bytes that they leave.
+    let asked = |regime, size, kind| {
+        let access = Access {
+            address: 0x40_3ab0,
+            size,
+            kind,
+            ..READ
+        };
+        let (mut walked, mut held) = (memory(), memory());
+        let mut session = session(regime);
+        session_access(&mut session, &mut held, &READ);
+        let answers = [
+            walk(&mut walked, &regime, &access),
+            session_access(&mut session, &mut held, &access),
+        ];
+        (answers, walked, held)
     };
-    let read_only = {
-        let mut memory = memory();
-        put(&mut memory, LEAF, CLEAN | AF);
-        memory
-    };
-    let regime = Regime { hd: 0, ..REGIME };
-    let answer = |kind| walk(&mut read_only.clone(), &regime, &probe(kind));
-    assert_eq!(answer(4).tag, 0);
-    assert_eq!(answer(5).code, 15);
-    for kind in 6..=255 {
-        assert_eq!(answer(kind), answer(5));
-        assert_eq!(ask(REGIME, probe(kind)), ask(REGIME, probe(5)));
+    let read_only = Regime { hd: 0, ..REGIME };
+    for size in [1, 3, 4, 16] {
+        let update = asked(REGIME, size, 2);
+        let denied = asked(read_only, size, 2);
+        for kind in 6..=255 {
+            assert!(asked(REGIME, size, kind) == update, "{kind}");
+            assert!(asked(read_only, size, kind) == denied, "{kind}");
+        }
     }
+
+    // An update marks the page dirty both times, and 5 does not.
+    let dirtied = |kind| asked(REGIME, 1, kind).0.map(|answer| answer.dirtied);
+    assert_eq!(dirtied(5), [0, 0]);
+    assert_eq!(dirtied(6), [1, 1]);
 }
 
 #[test]

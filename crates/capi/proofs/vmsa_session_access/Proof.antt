@@ -44,21 +44,22 @@ use denote.Triple.Table.{cited}
 use denote.Triple.Walked.{says, Stays, stay-ref, gave-slice, stay-dropped, walkOf, AllGo, goes-ref, goes-gave-slice, goes-dropped, Walks, ends-at, walked}
 use denote.Triple.Clauses.{ensured, lasts}
 use denote.Exit.{yes}
-use Rattle.session.specs.Model.{entryCount, accessCall}
-use Rattle.session.specs.Ours.{ours}
-use Rattle.session.specs.View.{noEntry, entryView, regimeIn, sessionView, entryFor, withEntry, entryReply}
-use Rattle.session.specs.declared.Entry.{Entry}
+use Rattle.tlb.specs.Walker.{entryCount}
+use Rattle.session.specs.Model.{left, access}
+use Rattle.tlb.specs.Entries.{noEntry, entryView, regimeIn, entryFor, entryLeft, accessedEntry, entryReply}
+use Rattle.session.specs.View.{withEntry, leaves}
+use Rattle.tlb.specs.declared.Entry.{Entry}
 use Rattle.session.specs.declared.Session.{Session}
-use Rattle.words.specs.Words.{accessOf, accessed, accessedBy, hitOf, FillsWords}
+use Rattle.words.specs.Words.{accessOf, replyWords, replied, entryReplied, hitOf}
 use Rattle.words.specs.declared.AccessWords.{AccessWords}
 use Rattle.words.specs.declared.AnswerWords.{AnswerWords}
 use Rattle.words.specs.declared.Hit.{Hit}
 use Rattle.words.specs.declared.FilledWords.{FilledWords}
-use Rattle.words.proofs.Reply.{hit-is-call}
+use Rattle.words.proofs.Reply.{hit-numbers, entry-numbers}
 use Rattle.vmsa.proofs.RegimeWords as R
 use Rattle.vmsa.proofs.RegimeWords.Laws as R′
-use Rattle.session.proofs.Entry as E
-use Rattle.session.proofs.Entry.Laws as E′
+use Rattle.tlb.proofs.Entry as E
+use Rattle.tlb.proofs.Entry.Laws as E′
 use Rattle.session.proofs.Session as S
 use Rattle.session.proofs.Session.Laws as S′
 use Rattle.words.proofs.AccessWords as G
@@ -116,7 +117,7 @@ is-true false t = absurd t
 
 -- s, the bytes l and the answer w are what the access g in the session h and the memory m leaves
 abbrev Answered : Session → List ℕ → AccessWords → Session → List ℕ → AnswerWords → Type 0
-Answered h m g s l w = accessed s l w ≡ accessedBy (accessCall ours (sessionView h) m (accessOf g))
+Answered h m g s l w = left s l w ≡ replied replyWords (leaves h m (access (accessOf g)))
 
 -- what each callee ensures
 abbrev Number : AccessWords → ℕ → Type 0
@@ -126,7 +127,7 @@ abbrev Hits : Session → List ℕ → AccessWords → Entry → Hit → Type 0
 Hits h m g e x = x ≡ hitOf (entryReply (length m) (accessOf g) (entryView e) (regimeIn (h .regime) (h .set)))
 
 abbrev Filled : Session → List ℕ → AccessWords → Entry → FilledWords → List ℕ → Type 0
-Filled h m g e x l = FillsWords (h .regime) (h .set) e (accessOf g) m (x .entry) l (x .answer)
+Filled h m g e x l = entryLeft (x .entry) l (x .answer) ≡ entryReplied (accessedEntry (h .regime) (h .set) e m (accessOf g))
 
 module _ {M : Type 1} (𝓤 : URA M) (H : Heap 𝓤) (A : Atoms 𝓤) (at-mem : Memory → SProp 𝓤) (run : Routine → Fun 𝓤) where
   abbrev NumberC : Contract 𝓤
@@ -262,7 +263,7 @@ module _ {M : Type 1} (𝓤 : URA M) (H : Heap 𝓤) (A : Atoms 𝓤) (W : Given
         returns-within ! Post refl (look ! 40 refl) $ move ! (40 ∷ 41 ∷ 38 ∷ 39 ∷ 36 ∷ 37 ∷ 34 ∷ 35 ∷ 32 ∷ 33 ∷ 30 ∷ 31 ∷ 28 ∷ 29 ∷ 26 ∷ 27 ∷ 24 ∷ 25 ∷ 22 ∷ 23 ∷ 20 ∷ 21 ∷ 18 ∷ 19 ∷ 16 ∷ 17 ∷ 14 ∷ 15 ∷ 12 ∷ 13 ∷ 10 ∷ 11 ∷ 8 ∷ 9 ∷ 6 ∷ 7 ∷ 4 ∷ 5 ∷ 2 ∷ 3 ∷ []) $ freed ! $ freed ! $ freed ! $ freed ! $ freed ! $ freed ! $ freed ! $ freed ! $ free1 ! $ freed ! $ freed ! $ freed ! $ freed ! $ freed ! $ freed ! $ freed ! $ free1 ! $ free1 ! $ free1 ! $ free1 ! $ free0 ! $
         -- [the session's borrow; its token; what the memory's borrow owns; the access's token; the memory's]
         move ! (2 ∷ []) $ use1 W (‵ (finally u8 γ′ m)) (given-up 𝓤 H A W κ′ γ′ b′ o′ m) $ nothing ! $ move ! (5 ∷ 0 ∷ []) $ join ! $ move ! (2 ∷ 3 ∷ 0 ∷ 1 ∷ []) $
-        by ! (exits h m (x .answer) (hit-is-call h m (accessOf g) x (answers i (en .0) x eh) (is-true (x .hit) held-so)) refl (LL.owed J.the-type J′.the-laws x (u ∷ []) ih .1 .0)))
+        by ! (exits h m (x .answer) (hit-numbers h m (accessOf g) x (answers i (en .0) x eh) (is-true (x .hit) held-so)) refl (LL.owed J.the-type J′.the-laws x (u ∷ []) ih .1 .0)))
         (λ failed.
         -- `access_entry`
         assigns ! (of-opd ! (load ! (from ! (hop ! (look ! 38 refl) (fld ! refl (stop !)))) (look-in ! 0 (sub ! 0 refl (whole !))))) (from ! (stop !)) (store ! 14 refl (regime-typed room ig is)) $
@@ -313,7 +314,8 @@ module _ {M : Type 1} (𝓤 : URA M) (H : Heap 𝓤) (A : Atoms 𝓤) (W : Given
         answers i e x p = subst (λ (k : ℕ). Hits h m g (held k) x) e p
 
         filled : (i : ℕ) → i ≡ entryFor (accessOf g) → (y : FilledWords) (l : List ℕ) → Filled h m g (held i) y l → Answered h m g (withEntry h i (y .entry)) l (y .answer)
-        filled i e y l p = subst (λ (k : ℕ). Answered h m g (withEntry h k (y .entry)) l (y .answer)) (sym e) (p h refl refl (ap held (sym e)))
+        filled i e y l p = subst (λ (k : ℕ). Answered h m g (withEntry h k (y .entry)) l (y .answer)) (sym e)
+            (entry-numbers h m (accessOf g) (entryLeft (y .entry) l (y .answer)) (subst (λ (k : ℕ). Filled h m g (held k) y l) e p))
 
 module _ {M : Type 1} (𝓤 : URA M) (H : Heap 𝓤) (A : Atoms 𝓤) (W : Given 𝓤 H A) (at-mem : Memory → SProp 𝓤) (run : Routine → Fun 𝓤) where
   walks : (C : Calls 𝓤 H) (Λ : Loops 𝓤 H) → FmC 𝓤 H (W .laws) C → Triple 𝓤 (C #number) (NumberC 𝓤 H A at-mem run) → Triple 𝓤 (C #hit) (HitC 𝓤 H A at-mem run) → Triple 𝓤 (C #walk) (WalkC 𝓤 H A at-mem run)

@@ -30,16 +30,17 @@ use denote.Struct.Laws as LL
 use denote.Triple.Statement.{Triple}
 use denote.Triple.Entry.{onEntry}
 use denote.Triple.Walked.{says, Stays, stay-ref, walkOf, AllGo, goes-ref, Walks, ends-at, walked}
-use Rattle.session.specs.Model.{entryCount}
-use Rattle.session.specs.View.{noEntry}
+use Rattle.tlb.specs.Walker.{entryCount}
+use Rattle.tlb.specs.Entries.{noEntry}
+use Rattle.session.specs.View.{emptied}
 use Rattle.session.specs.declared.Session.{Session}
-use Rattle.session.proofs.Entry as E
-use Rattle.session.proofs.Entry.Laws as E′
+use Rattle.tlb.proofs.Entry as E
+use Rattle.tlb.proofs.Entry.Laws as E′
 use Rattle.session.proofs.Session as S
 use Rattle.session.proofs.Session.Laws as S′
-use Rattle.session.proofs.Entry.empty.Symbol as empty-def
-use Rattle.session.proofs.Entry.empty.Symbol.{name as #empty}
-use Rattle.session.proofs.Entry.empty.Met as empty-thm
+use Rattle.tlb.proofs.Entry.empty.Symbol as empty-def
+use Rattle.tlb.proofs.Entry.empty.Symbol.{name as #empty}
+use Rattle.tlb.proofs.Entry.empty.Met as empty-thm
 use Rattle.capi.proofs.Lent.{sval, eval, evals, IsAt, typed, laid, laidTy, lent, Lent, Cell, opened, closed, freed, proved, same-is, EmptyC, calls-empty}
 use Rattle.capi.proofs.vmsa_session_invalidate_all.Key.{name as #this}
 use Rattle.capi.proofs.vmsa_session_invalidate_all as this
@@ -49,10 +50,6 @@ use Rattle.capi.proofs.vmsa_session_invalidate_all.Code as code
 -- what is had at exit: the borrow of the session
 abbrev stayed : Stays (this.ended .signature .params) (this.ended .kept)
 stayed = (stay-ref (0 ∷ []) tt (plain (λ _. S.the-row)), tt)
-
--- the session with every entry empty
-abbrev emptied : Session → Session
-emptied s = record { regime = s .regime; entries = replicate entryCount noEntry; set = s .set }
 
 emptied-is : (s : Session) → IsAt s (sval s) → Is E.the-row noEntry (eval noEntry ∷ []) → IsAt (emptied s) (sval (emptied s))
 emptied-is s is ie =
@@ -72,7 +69,7 @@ module _ {M : Type 1} (𝓤 : URA M) (H : Heap 𝓤) (A : Atoms 𝓤) (W : Given
   exits : ent 𝓤 (⋆ 𝓤 H A (‵ (Lent b o κ γ (emptied h)) ∷ ‵ (flft κ q) ∷ ‵ ftrue ∷ [])) (Post vunit)
   exits =
       qed W (‵ (Lent b o κ γ (emptied h)) ∷ ‵ (flft κ q) ∷ ‵ ftrue ∷ []) ∵
-      suffices ! _ (ends-at 𝓤 H A this.ended stayed (this.clauses 𝓤 H A at-mem run) W (((κ, tt), (q, tt), tt, a, at), tt) vunit tt (emptied h, tt) (tt, tt)) $ says ! (λ m. refl) $ move ! (1 ∷ 2 ∷ []) $ join ! $ frame ! $
+      suffices ! _ (ends-at 𝓤 H A this.ended stayed (this.clauses 𝓤 H A at-mem run) W (((κ, tt), (q, tt), tt, a, at), tt) vunit tt (emptied h, tt) (tt, tt)) $ says ! refl $ move ! (1 ∷ 2 ∷ []) $ join ! $ frame ! $
       nothing ! $ move ! (1 ∷ 0 ∷ []) $ fjoin ! $ frame ! $ feqI ! (List Val) (vunit ∷ []) (vunit ∷ []) refl $ done !
 
   -- the session's machine value with the entries us, by its fields
@@ -107,4 +104,4 @@ pub vmsa-session-invalidate-all-spec : {M : Type 1} → stated.statement M
 unfolding code.routine
 vmsa-session-invalidate-all-spec 𝓤 H 𝓜 𝓖 𝓡 =
     proved 𝓤 H 𝓜 𝓖 𝓡 this.ended stayed (goes 𝓤 H (𝓖 .A) (givenOf 𝓤 H 𝓜 𝓖) (𝓜 .mem) (𝓡 .run)) (this.clauses 𝓤 H (𝓖 .A) (𝓜 .mem) (𝓡 .run)) code.env #this code.function (code.unfolded 𝓤 H 𝓜 𝓡)
-    (EmptyC 𝓤 H (𝓖 .A) (𝓜 .mem) (𝓡 .run)) #empty empty-def.routine code.calls-session·Entry·empty (empty-thm.met 𝓤 H 𝓜 𝓖 𝓡) (walks 𝓤 H (𝓖 .A) (givenOf 𝓤 H 𝓜 𝓖) (𝓜 .mem) (𝓡 .run))
+    (EmptyC 𝓤 H (𝓖 .A) (𝓜 .mem) (𝓡 .run)) #empty empty-def.routine code.calls-tlb·Entry·empty (empty-thm.met 𝓤 H 𝓜 𝓖 𝓡) (walks 𝓤 H (𝓖 .A) (givenOf 𝓤 H 𝓜 𝓖) (𝓜 .mem) (𝓡 .run))

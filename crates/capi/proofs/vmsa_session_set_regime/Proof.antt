@@ -44,23 +44,24 @@ use denote.Exit.{yes}
 use Rattle.descriptor.specs.Bits.{pick as choose}
 use Rattle.vmsa.specs.Words.{regimeOf}
 use Rattle.vmsa.specs.declared.RegimeWords.{RegimeWords}
-use Rattle.session.specs.Model.{entryCount, setCall}
-use Rattle.session.specs.Ours.{ours}
-use Rattle.session.specs.View.{noEntry, sessionView, setTo}
+use Rattle.tlb.specs.Walker.{entryCount}
+use Rattle.session.specs.Model.{left, setRegime}
+use Rattle.tlb.specs.Entries.{noEntry}
+use Rattle.session.specs.View.{setTo, leaves}
 use Rattle.session.specs.declared.Session.{Session}
-use Rattle.words.specs.Words.{changed, changedBy, setWords}
+use Rattle.words.specs.Words.{refusalByte, replied, setWords}
 use Rattle.words.specs.declared.SetWords.{SetWords}
 use Rattle.vmsa.proofs.RegimeWords as R
 use Rattle.vmsa.proofs.RegimeWords.Laws as R′
-use Rattle.session.proofs.Entry as E
-use Rattle.session.proofs.Entry.Laws as E′
+use Rattle.tlb.proofs.Entry as E
+use Rattle.tlb.proofs.Entry.Laws as E′
 use Rattle.session.proofs.Session as S
-use Rattle.session.proofs.Entry.empty.Symbol as empty-def
-use Rattle.session.proofs.Entry.empty.Symbol.{name as #empty}
-use Rattle.session.proofs.Entry.empty.Met as empty-thm
+use Rattle.tlb.proofs.Entry.empty.Symbol as empty-def
+use Rattle.tlb.proofs.Entry.empty.Symbol.{name as #empty}
+use Rattle.tlb.proofs.Entry.empty.Met as empty-thm
 use Rattle.words.proofs.SetWords as X
 use Rattle.words.proofs.SetWords.Laws as X′
-use Rattle.words.proofs.Reply.{set-is-call}
+use Rattle.words.proofs.Reply.{set-numbers}
 use Rattle.words.proofs.set_words as check
 use Rattle.words.proofs.set_words.Symbol as check-def
 use Rattle.words.proofs.set_words.Symbol.{name as #check}
@@ -82,7 +83,7 @@ checkTy = tyStruct (shape X.the-type .name) (tcons (tyInt w8) (tcons R′.mir tn
 
 -- s and the reply n are what setting the regime g of the session h over the memory m leaves
 abbrev Set : Session → List ℕ → RegimeWords → Session → ℕ → Type 0
-Set h m g s n = changed s m n ≡ changedBy (setCall ours (sessionView h) m (regimeOf g))
+Set h m g s n = left s m n ≡ replied refusalByte (leaves h m (setRegime (regimeOf g)))
 
 -- the two ways, by the number of the refusal
 refused : (t : Bool) (s h : Session) → T (not t) → choose t s h ≡ h
@@ -141,10 +142,10 @@ module _ {M : Type 1} (𝓤 : URA M) (H : Heap 𝓤) (A : Atoms 𝓤) (W : Given
   check-told x = exE 𝓤 _ (λ ws. snd∗ 𝓤 (sem 𝓤 H A (lasts check.ended tt (length m, (g, tt)) ws)) (fact 𝓤 (Checked x)))
 
   when-refused : (x : SetWords) → Checked x → T (not (eqb (x .refusal) 0)) → Set h m g h (x .refusal)
-  when-refused x e z = subst (λ (s : Session). Set h m g s (x .refusal)) (refused (eqb (x .refusal) 0) (setTo (x .regime)) h z) (set-is-call (length m) g x e h m refl)
+  when-refused x e z = subst (λ (s : Session). Set h m g s (x .refusal)) (refused (eqb (x .refusal) 0) (setTo (x .regime)) h z) (set-numbers m g x e h)
 
   when-accepted : (x : SetWords) → Checked x → T (not (not (eqb (x .refusal) 0))) → Set h m g (setTo (x .regime)) 0
-  when-accepted x e z = subst (λ (n : ℕ). Set h m g (choose (eqb n 0) (setTo (x .regime)) h) n) (eqb→eq (x .refusal) 0 (held (eqb (x .refusal) 0) z)) (set-is-call (length m) g x e h m refl)
+  when-accepted x e z = subst (λ (n : ℕ). Set h m g (choose (eqb n 0) (setTo (x .regime)) h) n) (eqb→eq (x .refusal) 0 (held (eqb (x .refusal) 0) z)) (set-numbers m g x e h)
 
   module _ (C : Calls 𝓤 H) (Λ : Loops 𝓤 H) (fm : FmC 𝓤 H (W .laws) C) (known-check : Triple 𝓤 (C #check) (CheckC 𝓤 H A at-mem run)) (known-empty : Triple 𝓤 (C #empty) (EmptyC 𝓤 H A at-mem run)) where
     walk : Room u8 (length m) → ent 𝓤 (onEntry 𝓤 H A this.signature (κ, (κ′, (κ″, tt))) (q, (q′, (q″, tt))) a at) (WpFn 𝓤 H C Λ code.function (vptr b o ∷ slice ∷ vptr (asked .ptr .0) (asked .ptr .1) ∷ []) Post)
@@ -203,4 +204,4 @@ vmsa-session-set-regime-spec 𝓤 H 𝓜 𝓖 𝓡 =
     let run = 𝓡 .run in
     meets 𝓤 H 𝓜 𝓖 𝓡 this.ended stayed (goes 𝓤 H A W at-mem run) (this.clauses 𝓤 H A at-mem run) code.env #this code.function (code.unfolded 𝓤 H 𝓜 𝓡) (λ fm. walks 𝓤 H A W at-mem run _ _ fm
     (cited 𝓤 H (CheckC 𝓤 H A at-mem run) 𝓜 𝓡 code.env #check check-def.routine code.calls-words·set-words (check-thm.met 𝓤 H 𝓜 𝓖 𝓡))
-    (cited 𝓤 H (EmptyC 𝓤 H A at-mem run) 𝓜 𝓡 code.env #empty empty-def.routine code.calls-session·Entry·empty (empty-thm.met 𝓤 H 𝓜 𝓖 𝓡)))
+    (cited 𝓤 H (EmptyC 𝓤 H A at-mem run) 𝓜 𝓡 code.env #empty empty-def.routine code.calls-tlb·Entry·empty (empty-thm.met 𝓤 H 𝓜 𝓖 𝓡)))

@@ -38,7 +38,12 @@ use denote.Triple.Walked.{says, Stays, stay-ref, gave-slice, stay-dropped, walkO
 use denote.Triple.Clauses.{ensured, lasts}
 use denote.Exit.{yes}
 use Rattle.session.specs.declared.Session.{Session}
-use Rattle.words.specs.Words.{StoresWords}
+use Rattle.tlb.specs.Replies.{told}
+use Rattle.tlb.specs.Ours.{ours}
+use Rattle.tlb.specs.Entries.{regimeIn}
+use Rattle.session.specs.Model.{storeIn}
+use Rattle.words.specs.Words.{numbered}
+use Rattle.words.proofs.Reply.{store-numbers}
 use Rattle.vmsa.proofs.RegimeWords as R
 use Rattle.vmsa.proofs.RegimeWords.Laws as R′
 use Rattle.session.proofs.Session as S
@@ -87,12 +92,12 @@ module _ {M : Type 1} (𝓤 : URA M) (H : Heap 𝓤) (A : Atoms 𝓤) (W : Given
 
   -- the store's reply is n, and the memory's last bytes are l
   abbrev Stored : ℕ → List ℕ → Type 0
-  Stored n l = StoresWords (h .regime) (h .set) address value m l n
+  Stored n l = told n l ≡ numbered (storeIn ours (regimeIn (h .regime) (h .set)) m address value)
 
   exits : (n : ℕ) (v : Val) (l : List ℕ) → Stored n l → length l ≡ length m → Is u8 n (v ∷ []) → ent 𝓤 (⋆ 𝓤 H A (Had l)) (Post v)
   exits n v l e long is =
       qed W (Had l) ∵
-      suffices ! _ (ends-at 𝓤 H A this.ended stayed (this.clauses 𝓤 H A at-mem run) W (((κ, (κ′, tt)), (q, (q′, tt)), tt, a, (vptr b o ∷ [], vals)), tt) v n (h, (l, (tt, (tt, tt)))) (tt, (long, (tt, (tt, tt))))) $ says ! (e h refl refl) $
+      suffices ! _ (ends-at 𝓤 H A this.ended stayed (this.clauses 𝓤 H A at-mem run) W (((κ, (κ′, tt)), (q, (q′, tt)), tt, a, (vptr b o ∷ [], vals)), tt) v n (h, (l, (tt, (tt, tt)))) (tt, (long, (tt, (tt, tt))))) $ says ! (store-numbers h m address value (told n l) e) $
       move ! (1 ∷ 2 ∷ []) $ join ! $ frame ! $ nothing ! $ nothing ! $ fjoin ! $ nothing ! $ fjoin ! $ move ! (2 ∷ 0 ∷ []) $ fjoin ! $ move ! (1 ∷ 0 ∷ []) $ fjoin ! $ frame ! $ owned ! u8 (Is u8) (uint-makes 𝓤 H A W w8) n _ is $ done !
 
   abbrev passed : Callee 𝓤 H A at-mem run .Ghost

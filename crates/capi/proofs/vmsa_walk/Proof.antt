@@ -37,7 +37,8 @@ use denote.Triple.Clauses.{ensured, lasts}
 use denote.Exit.{yes}
 use Rattle.vmsa.specs.Words.{regimeOf}
 use Rattle.vmsa.specs.declared.RegimeWords.{RegimeWords}
-use Rattle.words.specs.Words.{accessOf, told, walkTold}
+use Rattle.tlb.specs.Replies.{told}
+use Rattle.words.specs.Words.{accessOf, walkWords}
 use Rattle.words.specs.declared.AccessWords.{AccessWords}
 use Rattle.words.specs.declared.AnswerWords.{AnswerWords}
 use Rattle.vmsa.proofs.RegimeWords as R
@@ -94,7 +95,7 @@ module _ {M : Type 1} (𝓤 : URA M) (H : Heap 𝓤) (A : Atoms 𝓤) (W : Given
 
   -- the walk's answer is w, and the memory's last bytes are l
   abbrev Walked : AnswerWords → List ℕ → Type 0
-  Walked w l = told w l ≡ walkTold (regimeOf (regime .now)) (accessOf (access .now)) m
+  Walked w l = told w l ≡ walkWords (regimeOf (regime .now)) (accessOf (access .now)) m
 
   exits : (w : AnswerWords) (v : Val) (l : List ℕ) → Walked w l → length l ≡ length m → Is N.the-row w (v ∷ []) → ent 𝓤 (⋆ 𝓤 H A (Had l)) (Post v)
   exits w v l e long is =

@@ -7,7 +7,7 @@ use Rattle.lookup.proofs.unpack.Tie as tie
 returns : tie.Need-returns
 returns c = λ p.
     let a = c .before .before .before .before .args in
-    rw (c .failed .ensures, c .before .kind-of .ensures) (fault-unpacked (a .pool .now) (a .base .0) (a .n) p (c .before .before .if1 .taken))
+    rw (c .failed .ensures, c .before .kind-numbered .ensures) (fault-unpacked (a .pool .now) (a .base .0) (a .n) p (c .before .before .if1 .taken))
 
 sub-load : tie.Need-sub-load
 sub-load c =

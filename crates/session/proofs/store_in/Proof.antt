@@ -8,14 +8,15 @@ use lib.ListN.{length}
 use borrow.Author.Tests.{eq-eqb, ne-eqb}
 use Rattle.checks.specs.Order.{sessionStoreCheck}
 use Rattle.checks.specs.declared.Checked.the-variants.{Accepted}
-use Rattle.session.proofs.Calls.{store-accepted, stored, store-room, stores-unset, stores-refused, stores-accepted}
+use Rattle.tlb.specs.Replies.{done, told}
+use Rattle.session.proofs.Calls.{store-accepted, stored, store-room, store-unset, store-set}
 use Rattle.session.proofs.store_in.Statement.{statement}
 use Rattle.session.proofs.store_in.Tie as tie
 
 returns : tie.Need-returns
 returns c =
     let a = c .before .before .args in
-    stores-unset (a .regime) (a .set) (a .address .0) (a .value) (a .memory .now) (ap not (eq-eqb (a .set) 0 (c .if1 .taken)))
+    store-unset (a .regime) (a .set) (a .address .0) (a .value) (a .memory .now) (ap not (eq-eqb (a .set) 0 (c .if1 .taken)))
 
 add-end : tie.Need-add-end
 add-end c =
@@ -47,7 +48,7 @@ store-requires c κs =
 returns-2 : tie.Need-returns-2
 returns-2 c =
     let a = c .before .before .before .before .before .before .before .before .args in
-    stores-refused (a .regime) (a .set) (a .address .0) (a .value) (a .memory .now) (ap not (ne-eqb (a .set) 0 (c .before .before .before .before .before .before .if1 .left))) _ (c .before .before .before .before .before .regime .ensures) _ (sym (c .before .before .before .check-session-store .ensures) ∙ c .before .refusal .given .1)
+    store-set (a .regime) (a .set) (a .address .0) (a .value) (a .memory .now) (ap not (ne-eqb (a .set) 0 (c .before .before .before .before .before .before .if1 .left))) _ (c .before .before .before .before .before .regime .ensures) _ (sym (c .before .before .before .check-session-store .ensures) ∙ c .before .refusal .given .1)
 
 returns-3 : tie.Need-returns-3
 returns-3 c =
@@ -57,7 +58,8 @@ returns-3 c =
     let n = r .pool .length in
     let z : sessionStoreCheck (length (a .memory .now)) (r .pool) (a .address .0) ≡ Accepted = sym (c .before .before .before .before .before .before .before .before .before .check-session-store .ensures) ∙ c .before .before .before .before .before .before .before .enum-told .given .1 in
     let e = stored r (a .memory .now) (a .address .0) (a .value) (store-accepted (length (a .memory .now)) (r .pool) (a .address .0) z) (c .before .before .store .last .0) (s + n - s) (add-sub-cancel-left s n) (c .before .before .store .ensures) in
-    stores-accepted (a .regime) (a .set) (a .address .0) (a .value) (a .memory .now) (ap not (ne-eqb (a .set) 0 (c .before .before .before .before .before .before .before .before .before .before .before .before .if1 .left))) r (c .before .before .before .before .before .before .before .before .before .before .before .regime .ensures) z _ e
+    ap (told done) e
+    ∙ store-set (a .regime) (a .set) (a .address .0) (a .value) (a .memory .now) (ap not (ne-eqb (a .set) 0 (c .before .before .before .before .before .before .before .before .before .before .before .before .if1 .left))) r (c .before .before .before .before .before .before .before .before .before .before .before .regime .ensures) _ z
 
 pub store-in-spec : {M : Type 1} → statement M
 store-in-spec =

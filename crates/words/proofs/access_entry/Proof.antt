@@ -1,16 +1,16 @@
 use borrow.Author.Needs.{needs}
 use mathlib.Core.Path.{ap}
 use Rattle.vmsa.specs.Answers.{view}
-use Rattle.words.specs.Words.{accessedBy}
+use Rattle.words.specs.Words.{entryReplied}
 use Rattle.words.proofs.Reply.{reply-words}
 use Rattle.words.proofs.access_entry.Statement.{statement}
 use Rattle.words.proofs.access_entry.Tie as tie
 
 returns : tie.Need-returns
-returns c s q1 q2 q3 =
+returns c =
     let f = c .before .before .before .before .access-entry in
     let g = c .before .before .before .before .before .before .access-of .ensures in
-    rw (c .words-of .ensures, ← reply-words (view (f .result .answer))) (ap accessedBy (rw g at (f .ensures s q1 q2 (rw g q3))))
+    rw (c .words-of .ensures, ← reply-words (view (f .result .answer))) (ap entryReplied (rw g at (f .ensures)))
 
 pub access-entry-spec : {M : Type 1} → statement M
 access-entry-spec =

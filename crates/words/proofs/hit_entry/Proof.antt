@@ -1,7 +1,7 @@
 use borrow.Author.Needs.{needs}
 use mathlib.Core.Path.{sym, ap, _∙_}
-use Rattle.session.specs.View.{entryView, regimeIn, entryReply, hitKindIn, isHit}
-use Rattle.session.proofs.Calls.{hit-reply, hit-size}
+use Rattle.tlb.specs.Entries.{entryView, regimeIn, entryReply, hitKindIn, isHit}
+use Rattle.tlb.proofs.Access.{hit-reply, hit-size}
 use Rattle.words.proofs.Reply.{hit, no-hit}
 use Rattle.words.proofs.hit_entry.Statement.{statement}
 use Rattle.words.proofs.hit_entry.Tie as tie

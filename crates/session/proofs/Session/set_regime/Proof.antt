@@ -1,20 +1,19 @@
 use borrow.Author.Needs.{needs}
-use mathlib.Core.Path.{sym, ap, _∙_}
-use lib.ListN.{length}
-use Rattle.vmsa.specs.Words.{regimeOf}
-use Rattle.vmsa.proofs.Words.{regime-words}
-use Rattle.session.specs.View.{sessionView}
-use Rattle.session.proofs.Calls.{set-checked}
+use mathlib.Core.Path.{sym, _∙_}
+use Rattle.session.proofs.Calls.{set-leaves}
 use Rattle.session.proofs.Session.set_regime.Statement.{statement}
 use Rattle.session.proofs.Session.set_regime.Tie as tie
 
 returns : tie.Need-returns
-returns c = let a = c .before .before .before .before .before .args in rw (set-checked (sessionView (a .self)) (a .memory .now) (a .r), sym (c .before .before .before .check-regime .ensures) ∙ c .before .refusal .given .1)
+returns c =
+    let a = c .before .before .before .before .before .args in
+    set-leaves (a .self) (a .memory .now) (a .r) _ (sym (c .before .before .before .check-regime .ensures) ∙ c .before .refusal .given .1)
 
 returns-2 : tie.Need-returns-2
 returns-2 c =
     let a = c .before .before .before .before .before .before .args in
-    rw (c .before .empty .ensures, ap regimeOf (c .of .ensures) ∙ regime-words (a .r), set-checked (sessionView (a .self)) (a .memory .now) (a .r), sym (c .before .before .before .before .check-regime .ensures) ∙ c .before .before .enum-told .given .1)
+    rw (c .before .empty .ensures, c .of .ensures)
+    (set-leaves (a .self) (a .memory .now) (a .r) _ (sym (c .before .before .before .before .check-regime .ensures) ∙ c .before .before .enum-told .given .1))
 
 pub set-regime-spec : {M : Type 1} → statement M
 set-regime-spec =

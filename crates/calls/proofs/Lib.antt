@@ -1,0 +1,3 @@
+pub mod Memories
+pub mod Rule1
+pub mod Lists

@@ -1,0 +1,88 @@
+-- Rule 1 holds of every list of calls, by any functions whose every call it holds of; and so of the functions of a session.
+use Prim.Native.Nat.{ℕ}
+use mathlib.Core.List.{List, [], _∷_}
+use mathlib.Core.Option.{Option}
+use mathlib.Core.Path.{_≡_, refl, sym, ap, ap₂, subst, subst⁻¹, _∙_}
+use lib.ListN.{length, getD}
+use Rattle.descriptor.proofs.Tests.{clash}
+use Rattle.vmsa.specs.declared.Regime.{Regime}
+use Rattle.tlb.specs.Replies.{Reply}
+use Rattle.session.specs.declared.Session.{Session as SessionStruct}
+use Rattle.session.specs.Model.{Session, Left, Call, setRegime, access, store, dropAll}
+use Rattle.session.specs.View.{regimeHeld, leaves}
+use Rattle.session.proofs.Promises.{set-promise, access-promise, store-promise, drop-promise}
+use Rattle.calls.specs.Chains.{Event, event, Functions, Calling, Chain, none-yet, more, regimeAfter, regimeFrom}
+use Rattle.calls.specs.Rule1.{Reach, Rule1Event, Same, Rule1Call, EachCall, Reaches, calls, replies, Rule1List}
+use Rattle.calls.specs.Code.{Made, set-regime, accessed, stored, dropped-all}
+use Rattle.calls.proofs.Rule1.{rule1-call, Leaving, rule1-leaves}
+
+module _ {S : Type 0} (regime : S → Option Regime) (F : Functions S) (rule : (s : S) (m : List ℕ) (c : Call) (x : Left S Reply) → F s m c x → Rule1Call regime F s m c x) (s₀ : S) (m₀ : List ℕ) where
+  -- the session's regime is the one last accepted
+  known : {s : S} {m : List ℕ} {past : List Event} → Chain F s₀ m₀ s m past → regime s ≡ regimeFrom (regime s₀) past
+  known none-yet = refl
+  known (more {s = s} {m = m} {c = c} {x = x} before made) = rule s m c x made .accepted ∙ ap (regimeAfter c (x .reply)) (known before)
+
+  each : {s : S} {m : List ℕ} {past : List Event} → Chain F s₀ m₀ s m past → EachCall (regime s₀) past
+  each none-yet = tt
+  each (more {s = s} {m = m} {c = c} {x = x} before made) =
+      (subst (λ (g : Option Regime). Rule1Event g (event c m x)) (known before) (rule s m c x made .told), each before)
+
+  long : {s : S} {m : List ℕ} {past : List Event} → Chain F s₀ m₀ s m past → length m ≡ length m₀
+  long none-yet = refl
+  long (more {s = s} {m = m} {c = c} {x = x} before made) = rule s m c x made .told .long ∙ long before
+
+  module _ (At : ℕ → Type 0) where
+    reach : {s : S} {m : List ℕ} {past : List Event} → Chain F s₀ m₀ s m past → (c : Call) → ((i : ℕ) → Reach (regimeFrom (regime s₀) past) c i → At i)
+        → (i : ℕ) → Reach (regime s) c i → At i
+    reach before c f = subst⁻¹ (λ (g : Option Regime). (i : ℕ) → Reach g c i → At i) (known before) f
+
+    outside : {s : S} {m : List ℕ} {past : List Event} → Chain F s₀ m₀ s m past → Reaches At (regime s₀) past → (i : ℕ) → (At i → ⊥) → getD m i 0 ≡ getD m₀ i 0
+    outside none-yet f i o = refl
+    outside (more {s = s} {m = m} {c = c} {x = x} before made) f i o =
+        rule s m c x made .told .outside i (λ q. o (reach before c (f .0) i q)) ∙ outside before (f .1) i o
+
+    unheard : {s : S} {m : List ℕ} {past : List Event} → Chain F s₀ m₀ s m past → Reaches At (regime s₀) past → (n₀ : List ℕ) → Same At m₀ n₀
+        → {t : S} {n : List ℕ} {other : List Event} → Chain F s₀ n₀ t n other → calls past ≡ calls other
+        → (replies past ≡ replies other) × (s ≡ t) × Same At m n
+    unheard none-yet f n₀ h none-yet e = (refl, refl, h)
+    unheard none-yet f n₀ h (more before made) e = clash (cc)
+    unheard (more before made) f n₀ h none-yet e = clash (cc)
+    unheard (more {s = s} {m = m} {past = past} {c = c} {x = x} before made) f n₀ h (more {s = t} {m = n} {past = other} {c = d} {x = y} before′ made′) e =
+        let ce : c ≡ d = cc in
+        let le : calls past ≡ calls other = cc in
+        let u = unheard before (f .1) n₀ h before′ le in
+        let made″ : F s n c y = subst⁻¹ (λ (k : Call). F s n k y) ce (subst⁻¹ (λ (z : S). F z n d y) (u .1) made′) in
+        let v = rule s m c x made .unheard At (reach before c (f .0)) n (u .2) y made″ in
+        (ap₂ _∷_ (v .0) (u .0), v .1, v .2)
+
+  pub rule1-list : {s : S} {m : List ℕ} {past : List Event} → Chain F s₀ m₀ s m past → Rule1List regime F s₀ m₀ s m past
+  rule1-list chain =
+      record {
+        each = each chain;
+        long = long chain;
+        outside = λ At f. outside At chain f;
+        unheard = λ At f n₀ h t n other chain′ e. unheard At chain f n₀ h chain′ e;
+      }
+
+-- ---- the model
+
+pub rule-1 : (s₀ : Session) (m₀ : List ℕ) {s : Session} {m : List ℕ} {past : List Event} → Chain Calling s₀ m₀ s m past → Rule1List (λ (t : Session). t .regime) Calling s₀ m₀ s m past
+rule-1 s₀ m₀ =
+    rule1-list (λ (t : Session). t .regime) Calling (λ s m c x e. subst⁻¹ (λ (y : Left Session Reply). Rule1Call (λ (t : Session). t .regime) Calling s m c y) e (rule1-call s m c)) s₀ m₀
+
+-- ---- the functions of a session, by their own contracts
+
+made-is : {s : SessionStruct} {m : List ℕ} {c : Call} {x : Left SessionStruct Reply} → Made s m c x → x ≡ leaves s m c
+made-is (set-regime lives s memory r x h) = set-promise lives s memory r x h
+made-is (accessed lives s memory a after x h) = access-promise lives s memory a after x h
+made-is (stored lives s memory address value after x h) = store-promise lives s memory address value after x h
+made-is (dropped-all s after m h) = drop-promise s after h m
+
+pub made-leaves : Leaving Made
+made-leaves s m c x made = made-is made
+
+pub rule-1-call-code : {s : SessionStruct} {m : List ℕ} {c : Call} {x : Left SessionStruct Reply} → Made s m c x → Rule1Call regimeHeld Made s m c x
+rule-1-call-code {s} {m} {c} {x} made = rule1-leaves Made made-leaves s m c x made
+
+pub rule-1-code : (s₀ : SessionStruct) (m₀ : List ℕ) {s : SessionStruct} {m : List ℕ} {past : List Event} → Chain Made s₀ m₀ s m past → Rule1List regimeHeld Made s₀ m₀ s m past
+rule-1-code s₀ m₀ = rule1-list regimeHeld Made (rule1-leaves Made made-leaves) s₀ m₀

@@ -1,0 +1,96 @@
+-- Two memories side by side: what a call may leave of them, and their pools.
+use Prim.Native.Nat.{ℕ, _+_, _-_, _<_, _≤_}
+use mathlib.Core.Bool.{Bool, true, false}
+use mathlib.Core.List.{List, _++_, append-assoc}
+use mathlib.Core.Logic.{_⊎_, inl, inr}
+use mathlib.Core.Option.{some}
+use mathlib.Core.Path.{_≡_, refl, sym, subst, _∙_}
+use native.Mathlib.Omega.{arith}
+use lib.Dec.{ltb}
+use lib.ListN.{length, getD, take, drop, length-take, length-drop, List·getD-append}
+use lib.Seq.{ext-getD, getD-take, getD-drop, getD-append-add, length-take-le}
+use borrow.Author.Tests.{ltb-true, ltb-false}
+use Rattle.descriptor.specs.Bytes.{Bytes, bytesOf, put}
+use Rattle.descriptor.proofs.Laws.{length-bytes, length-put}
+use Rattle.descriptor.proofs.Numbers.{bytes-put}
+use Rattle.vmsa.specs.declared.Regime.{Regime}
+use Rattle.walk.specs.Walk.{poolBytes}
+use Rattle.walk.proofs.Parts.{getD-put}
+use Rattle.tlb.specs.Ours.{located}
+use Rattle.calls.specs.Rule1.{InPool, Same}
+
+-- ---- what a call leaves of two memories: both as they were, or both with one descriptor at one place in reach
+
+pub data Written (At : ℕ → Type 0) (m n : List ℕ) : List ℕ → List ℕ → Type 0 where
+  still : Written At m n m n
+  wrote : (at v : ℕ) → ((i : ℕ) → at ≤ i → i < at + 8 → At i) → at + 8 ≤ length m → Written At m n (put m at v) (put n at v)
+
+pub written-long : {At : ℕ → Type 0} {m n m′ n′ : List ℕ} → Written At m n m′ n′ → length m′ ≡ length m
+written-long still = refl
+written-long {m = m} (wrote at v h k) = length-put m at v k
+
+pub written-bytes : {At : ℕ → Type 0} {m n m′ n′ : List ℕ} → Written At m n m′ n′ → Bytes m → Bytes m′
+written-bytes still b = b
+written-bytes {m = m} (wrote at v h k) b = bytes-put m at v b
+
+data Apart (at i : ℕ) : Type 0 where
+  beside : (i < at) ⊎ (at + 8 ≤ i) → Apart at i
+  within : at ≤ i → i < at + 8 → Apart at i
+
+apart : (at i : ℕ) → Apart at i
+apart at i = by (ltb i at) (ltb i (at + 8)) refl refl
+  where
+    by : (x y : Bool) → ltb i at ≡ x → ltb i (at + 8) ≡ y → Apart at i
+    by true y p q = beside (inl (ltb-true i at p))
+    by false false p q = beside (inr (ltb-false i (at + 8) q))
+    by false true p q = within (ltb-false i at p) (ltb-true i (at + 8) q)
+
+pub written-outside : {At : ℕ → Type 0} {m n m′ n′ : List ℕ} → Written At m n m′ n′ → (i : ℕ) → (At i → ⊥) → getD m′ i 0 ≡ getD m i 0
+written-outside still i o = refl
+written-outside {At} {m} (wrote at v h k) i o = by (apart at i)
+  where
+    by : Apart at i → getD (put m at v) i 0 ≡ getD m i 0
+    by (beside b) = getD-put m at v k i b
+    by (within p q) = absurd (o (h i p q))
+
+getD-within : (m : List ℕ) (at v i : ℕ) → at + 8 ≤ length m → at ≤ i → i < at + 8 → getD (put m at v) i 0 ≡ getD (bytesOf v) (i - at) 0
+unfolding put
+getD-within m at v i k p q =
+    let ls : length (take at m) ≡ at = length-take-le at m (omega arith) in
+    let e : i ≡ at + (i - at) = omega arith in
+    let j : i - at < length (bytesOf v) = rw (length-bytes v) (omega arith) in
+    let g : getD (take at m ++ (bytesOf v ++ drop (at + 8) m)) (length (take at m) + (i - at)) 0 ≡ getD (bytesOf v) (i - at) 0 =
+    getD-append-add (take at m) (bytesOf v ++ drop (at + 8) m) (i - at) 0 ∙ List·getD-append (bytesOf v) (drop (at + 8) m) 0 (i - at) j in
+    rw append-assoc (rw (ls, ← e) at g)
+
+pub written-same : {At : ℕ → Type 0} {m n m′ n′ : List ℕ} → Written At m n m′ n′ → (In : ℕ → Type 0) → Same In m n → Same In m′ n′
+written-same still In h = h
+written-same {At} {m} {n} (wrote at v r k) In h =
+    let k′ : at + 8 ≤ length n = subst (λ (x : ℕ). at + 8 ≤ x) (h .long) k in
+    record { long = length-put m at v k ∙ h .long ∙ sym (length-put n at v k′); bytes = λ i q. by i q k′ (apart at i) }
+  where
+    by : (i : ℕ) → In i → at + 8 ≤ length n → Apart at i → getD (put m at v) i 0 ≡ getD (put n at v) i 0
+    by i q k′ (beside b) = getD-put m at v k i b ∙ h .bytes i q ∙ sym (getD-put n at v k′ i b)
+    by i q k′ (within x y) = getD-within m at v i k x y ∙ sym (getD-within n at v i k′ x y)
+
+-- ---- memories that agree in the pool have one pool
+
+pub pool-same : (r : Regime) (m n : List ℕ) → Same (InPool (some r)) m n → poolBytes (r .pool) m ≡ poolBytes (r .pool) n
+pool-same r m n h =
+    let s = r .pool .start in
+    let k = r .pool .length in
+    ext-getD 0 (take k (drop s m)) (take k (drop s n)) (rw (length-take k (drop s m), length-take k (drop s n), length-drop s m, length-drop s n, h .long))
+    (λ i q. by i (below i q))
+  where
+    below : (i : ℕ) → i < length (take (r .pool .length) (drop (r .pool .start) m)) → i < r .pool .length
+    below i q = let e = length-take (r .pool .length) (drop (r .pool .start) m) in omega (arith, e, q)
+
+    by : (i : ℕ) → i < r .pool .length → getD (take (r .pool .length) (drop (r .pool .start) m)) i 0 ≡ getD (take (r .pool .length) (drop (r .pool .start) n)) i 0
+    by i q =
+        getD-take (r .pool .length) (drop (r .pool .start) m) i 0 q ∙ getD-drop (r .pool .start) m i 0
+        ∙ h .bytes (r .pool .start + i) (omega arith, omega arith)
+        ∙ sym (getD-take (r .pool .length) (drop (r .pool .start) n) i 0 q ∙ getD-drop (r .pool .start) n i 0)
+
+pub located-same : (r : Regime) (m n : List ℕ) (p : ℕ) → poolBytes (r .pool) m ≡ poolBytes (r .pool) n → located r m p ≡ located r n p
+unfolding located
+located-same r m n p e = rw e

@@ -1,0 +1,38 @@
+-- The functions of a session, by value: each call by what the function's own contract tells its caller.
+use Prim.Native.Nat.{ℕ}
+use mathlib.Core.List.{List}
+use contract.Lifetimes.{Lfts}
+use denote.Ref.{RefT, at-last}
+use Rattle.vmsa.specs.Answers.{view}
+use Rattle.vmsa.specs.declared.Regime.{Regime}
+use Rattle.vmsa.specs.declared.Access.{Access}
+use Rattle.vmsa.specs.declared.PhysAddr.{PhysAddr}
+use Rattle.tlb.specs.Replies.{Reply, done, replyOf, replyTo}
+use Rattle.session.specs.declared.Session.{Session as SessionStruct}
+use Rattle.session.specs.declared.Changed.{Changed}
+use Rattle.session.specs.declared.Accessed.{Accessed}
+use Rattle.session.specs.Model.{Left, left, Call, setRegime, access, store, dropAll}
+use Rattle.session.proofs.Session.empty.Reads as Empty
+use Rattle.session.proofs.Session.set_regime.Reads as SetRegime
+use Rattle.session.proofs.Session.access.Reads as AccessOf
+use Rattle.session.proofs.Session.store.Reads as Store
+use Rattle.session.proofs.Session.invalidate_all.Reads as InvalidateAll
+
+-- Session::empty() gave s
+abbrev pub Begun : SessionStruct → Type 0
+Begun s = Empty.Learnt tt tt s tt
+
+-- one call: what it got, and what it left. `Learnt` is what the contract of the named function tells whoever called it with these
+-- arguments, got this result, and finds its parameters so at the return
+pub data Made : SessionStruct → List ℕ → Call → Left SessionStruct Reply → Type 0 where
+  set-regime : (lives : Lfts 1) (s : SessionStruct) (memory : RefT (List ℕ)) (r : Regime) (x : Changed)
+      → SetRegime.Learnt lives (s, (memory, (r, tt))) x (s, (memory, (r, tt)))
+      → Made s (memory .now) (setRegime r) (left (x .session) (memory .now) (replyTo (x .reply)))
+  accessed : (lives : Lfts 1) (s : SessionStruct) (memory : RefT (List ℕ)) (a : Access) (after : List ℕ) (x : Accessed)
+      → AccessOf.Learnt lives (s, (memory, (a, tt))) x (s, (at-last memory after, (a, tt)))
+      → Made s (memory .now) (access a) (left (x .session) after (replyOf (view (x .answer))))
+  stored : (lives : Lfts 1) (s : SessionStruct) (memory : RefT (List ℕ)) (address : PhysAddr) (value : ℕ) (after : List ℕ) (x : Changed)
+      → Store.Learnt lives (s, (memory, (address, (value, tt)))) x (s, (at-last memory after, (address, (value, tt))))
+      → Made s (memory .now) (store (address .0) value) (left (x .session) after (replyTo (x .reply)))
+  dropped-all : (s after : SessionStruct) (m : List ℕ) → InvalidateAll.Learnt tt (s, tt) after (s, tt)
+      → Made s m dropAll (left after m done)

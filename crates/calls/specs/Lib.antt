@@ -1,0 +1,3 @@
+pub mod Chains
+pub mod Rule1
+pub mod Code

@@ -1,0 +1,95 @@
+-- Rules 1 to 3 in what C passes and gets.
+use Prim.Native.Nat.{ℕ, _+_, _<_, _≤_}
+use mathlib.Core.Bool.{Bool, true, false}
+use mathlib.Core.List.{List}
+use mathlib.Core.Logic.{_⊎_, _↔_, _≢_}
+use mathlib.Core.Option.{Option, none, some}
+use mathlib.Core.Path.{_≡_}
+use lib.ListN.{length, getD}
+use Rattle.descriptor.specs.Bytes.{Bytes, desc}
+use Rattle.descriptor.specs.Bits.{bit}
+use Rattle.geometry.specs.Geometry.{outputLimit}
+use Rattle.vmsa.specs.Words.{flag, regimeOf}
+use Rattle.vmsa.specs.Kinds.{writes}
+use Rattle.vmsa.specs.Fields.{af, ap2}
+use Rattle.vmsa.specs.Answers.{codeOf}
+use Rattle.vmsa.specs.declared.Regime.{Regime}
+use Rattle.vmsa.specs.declared.RegimeWords.{RegimeWords}
+use Rattle.vmsa.specs.declared.Access.{Access}
+use Rattle.vmsa.specs.declared.FaultKind.{FaultKind}
+use Rattle.checks.specs.declared.Checked.the-variants.{Accepted}
+use Rattle.checks.specs.Order.{walkRows, walkCheck}
+use Rattle.walk.specs.Walk.{poolBytes}
+use Rattle.rules.specs.Rule1.{FirstNumber}
+use Rattle.rules.specs.Steps.{AllPass, FirstFails}
+use Rattle.rules.specs.Rule2.{stepsOf, traceOf, LeafOf, offset, Right, FlagUpdate, DirtyUpdate}
+use Rattle.tlb.specs.Ours.{ours}
+use Rattle.tlb.specs.Entries.{pageFor, entryFor}
+use Rattle.words.specs.declared.AccessWords.{AccessWords}
+use Rattle.words.specs.declared.AnswerWords.{AnswerWords}
+use Rattle.words.specs.Words.{accessOf, countedWords}
+use Rattle.capi.proofs.Promises.{WalkSays}
+use Rattle.calls.specs.Chains.{Event}
+use Rattle.rule3.specs.Events.{settled, Moment, counted, anyCount, latest}
+use Rattle.rules_c.specs.Readings.{successIn}
+
+-- ---- rules 1 and 2 of vmsa_walk, which got the regime g, the access a and the memory m, and gave w and left m′
+
+module _ (m : List ℕ) (g : RegimeWords) (a : AccessWords) (m′ : List ℕ) (w : AnswerWords) where
+  abbrev pub R : Regime
+  R = regimeOf g
+
+  abbrev pub A : Access
+  A = accessOf a
+
+  pub record WalkRules : Type 0 where
+    -- it is refused with k exactly where the first row that applies has the number k, and then changes nothing
+    pub refusals : (k : ℕ) → ((w .tag ≡ 2) × (w .refusal ≡ k)) ↔ FirstNumber (walkRows (length m) R A) k
+    pub kept : w .tag ≡ 2 → m′ ≡ m
+    -- no byte outside the pool is changed, or has a say
+    pub long : length m′ ≡ length m
+    pub outside : (i : ℕ) → (i < R .pool .start) ⊎ (R .pool .start + R .pool .length ≤ i) → getD m′ i 0 ≡ getD m i 0
+    pub unheard : (n n′ : List ℕ) (x : AnswerWords) → WalkSays n g a n′ x → length m ≡ length n → poolBytes (R .pool) m ≡ poolBytes (R .pool) n
+        → (w ≡ x) × (poolBytes (R .pool) m′ ≡ poolBytes (R .pool) n′)
+    -- one that is not refused succeeds exactly when no step fails; else it gives the fault of the first that does, and changes nothing
+    pub succeeds : walkCheck (length m) R A ≡ Accepted → (w .tag ≡ 0) ↔ AllPass (stepsOf R A m)
+    pub faults : walkCheck (length m) R A ≡ Accepted → (k : FaultKind) (l : ℕ) → FirstFails (stepsOf R A m) k l
+        → (w .tag ≡ 1) × (w .code ≡ codeOf k l) × (w .level ≡ l) × (m′ ≡ m)
+    -- a success has its one leaf, and gives the right address, below 2 to the output size, and attributes
+    pub leaf : w .tag ≡ 0 → LeafOf R A m
+    pub right : w .tag ≡ 0 → (l : LeafOf R A m) → Right l (successIn w)
+    pub below : w .tag ≡ 0 → w .output < outputLimit (R .output)
+    -- it changes at most bits 10 and 7 of that leaf's descriptor, where those updates are switched on
+    pub bytes : w .tag ≡ 0 → Bytes m → (l : LeafOf R A m) (i : ℕ) → (i < offset l) ⊎ (offset l + 8 ≤ i) → getD m′ i 0 ≡ getD m i 0
+    pub bits : w .tag ≡ 0 → Bytes m → (l : LeafOf R A m) (n : ℕ) → n ≢ 10 → n ≢ 7 → bit n (desc m′ (offset l)) ≡ bit n (l .value)
+    pub marks : w .tag ≡ 0 → Bytes m → (l : LeafOf R A m)
+        → FlagUpdate R A (l .value) (desc m′ (offset l)) (flag (w .accessed)) × DirtyUpdate R A (l .value) (desc m′ (offset l)) (flag (w .dirtied))
+    -- a written page ends writable with its Access flag set
+    pub written : w .tag ≡ 0 → Bytes m → writes (A .kind) ≡ true → (l : LeafOf R A m) → (af (desc m′ (offset l)) ≡ true) × (ap2 (desc m′ (offset l)) ≡ false)
+    -- the count of reads is the length of the list of descriptor addresses visited, and at most 4
+    pub reads : w .tag ≢ 2 → (w .reads ≡ length (traceOf R A m .visited)) × (w .reads ≤ 4)
+
+-- ---- rule 3 of vmsa_session_access: after the calls past, which left the memory m, and by which the regime last accepted is g, it got
+-- the access a and the memory n, and gave w and left n′. Beside it stand calls of vmsa_walk
+
+module _ (past : List Event) (m : List ℕ) (g : RegimeWords) (n : List ℕ) (a : AccessWords) (n′ : List ℕ) (w : AnswerWords) where
+  -- what vmsa_walk gives and leaves at that moment, each number of it and each byte
+  abbrev pub Walks : Type 0
+  Walks = (x : AnswerWords) (l : List ℕ) → WalkSays n g a l x → (w ≡ x) × (n′ ≡ l)
+
+  -- what vmsa_walk gives under the regime of u and over the memory as u left it, its count put to 0; where that makes a dirty mark, it walks
+  abbrev pub Recalls : Moment → Type 0
+  Recalls u = (h : RegimeWords) → regimeOf h ≡ u .regime → (x : AnswerWords) (l : List ℕ) → WalkSays (u .left) h a l x
+      → (x .dirtied ≡ 0 → (w ≡ countedWords 0 x) × (n′ ≡ n)) × (x .dirtied ≢ 0 → Walks)
+
+  -- the last rememberable access at the page's entry since the last emptying
+  abbrev pub Last : (ℕ → Bool) → Option Moment
+  Last ok = latest ours ok past (entryFor (accessOf a))
+
+  pub record AccessRules : Type 0 where
+    -- settled, and over the memory as it was left: what vmsa_walk gives, each number but the count of reads, and leaves
+    pub settles : settled past ≡ true → n ≡ m → (x : AnswerWords) (l : List ℕ) → WalkSays n g a l x → (countedWords 0 w ≡ countedWords 0 x) × (n′ ≡ l)
+    -- over any bytes of the same length, settled or not: of that page, of another, or none
+    pub held : (t : Moment) → Last anyCount ≡ some t → t .page ≡ pageFor (accessOf a) → (u : Moment) × (Last counted ≡ some u) × Recalls u
+    pub other : (t : Moment) → Last anyCount ≡ some t → t .page ≢ pageFor (accessOf a) → Walks
+    pub unheld : Last anyCount ≡ none → Walks

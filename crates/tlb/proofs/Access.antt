@@ -1,0 +1,158 @@
+-- An access from what the code computed: its checks, what the entry answers, the walk of a miss.
+use Prim.Native.Nat.{ℕ, _+_, _<_, _≤_}
+use mathlib.Core.Bool.{Bool, true, false}
+use mathlib.Core.List.{List, _++_}
+use mathlib.Core.Option.{Option, none, some, Option·some-injective}
+use mathlib.Core.Path.{_≡_, refl, sym, ap, subst, _∙_}
+use lib.ListN.{length, take, drop}
+use Rattle.descriptor.specs.Bits.{pick}
+use Rattle.descriptor.proofs.Tests.{clash}
+use Rattle.vmsa.specs.Words.{flag, regimeOf}
+use Rattle.vmsa.specs.Answers.{Result, view, cacheableIn, codeOf, numberOf, dirtiedIn}
+use Rattle.vmsa.specs.declared.Regime.{Regime}
+use Rattle.vmsa.specs.declared.RegimeWords.{RegimeWords}
+use Rattle.vmsa.specs.declared.Pool.{Pool}
+use Rattle.vmsa.specs.declared.Access.{Access}
+use Rattle.vmsa.specs.declared.Leaf.{Leaf}
+use Rattle.vmsa.specs.declared.FaultKind.the-variants.{Translation}
+use Rattle.checks.specs.declared.Checked.{Checked}
+use Rattle.checks.specs.declared.Checked.the-variants.{Accepted, Refused}
+use Rattle.checks.specs.Order.{memoryRows, accessRows, sessionAccessCheck}
+use Rattle.checks.proofs.Accept.{clear, pooled, shaped}
+use Rattle.walk.specs.declared.Walked.{Walked as WalkedStruct}
+use Rattle.walk.specs.Walk.{Outcome, outcome, walkPool, keptPool, keptLeaf}
+use Rattle.walk.proofs.Parts.{put-back}
+use Rattle.tlb.specs.declared.Entry.{Entry as EntryStruct}
+use Rattle.tlb.specs.Replies.{Reply, answered}
+use Rattle.tlb.specs.Walker.{Spot, lost, found as foundAt, andThen, noRegime, Entry, holds, heldIn, revalued, Walked, declined, walkFrom, walked, accessHeld, accessBy, accessUnder, accessIn}
+use Rattle.tlb.specs.Ours.{usable, located, judged, stamped, ours}
+use Rattle.tlb.specs.Entries.{entryView, pageFor, keptEntry, entryAnswer, checkedReply, entryReply, hitKindIn, isHit, regimeIn, walkedView}
+use Rattle.tlb.proofs.Entries.{hitWith, hit-gives, kept-view}
+use Rattle.tlb.proofs.Found.{where-found, in-the-pool}
+use Rattle.tlb.proofs.Walking.{first-append, usable-sized, usable-root, walked-pool}
+
+-- ---- the checks
+
+-- rows 1, 6 and 7, one after another
+checks-apart : (n : ℕ) (r : Regime) (a : Access) → andThen (ours .memoryCheck r n) (ours .accessCheck a) ≡ sessionAccessCheck n (r .pool) a
+unfolding sessionAccessCheck
+checks-apart n r a = sym (first-append (memoryRows n (r .pool)) (accessRows a))
+
+pub access-checked : (r : Regime) (m : List ℕ) (a : Access) (h : Option Leaf) (x : Checked) → sessionAccessCheck (length m) (r .pool) a ≡ x → accessBy ours r m a h x ≡ accessUnder ours r m a h
+access-checked r m a h x e = ap (accessBy ours r m a h) (sym (checks-apart (length m) r a ∙ e))
+
+-- what acceptance gives
+pub access-accepted : (n : ℕ) (pool : Pool) (a : Access) → sessionAccessCheck n pool a ≡ Accepted → (pool .start + pool .length ≤ n) × (0 < a .size)
+unfolding sessionAccessCheck
+access-accepted n pool a e =
+    let c = clear (memoryRows n pool ++ accessRows a) e in
+    (pooled n pool (c .0) .fits, shaped a (c .1 .0) (c .1 .1 .0) .positive)
+
+-- an access by whether the regime is set
+module _ (regime : RegimeWords) (set : ℕ) (m : List ℕ) (a : Access) (e : Entry) where
+  pub access-unset : flag set ≡ false → declined m noRegime ≡ accessIn ours (regimeIn regime set) m a e
+  access-unset f = ap (λ (b : Bool). accessIn ours (pick b (some (regimeOf regime)) none) m a e) (sym f)
+
+  pub access-set : flag set ≡ true → (x : Checked) → sessionAccessCheck (length m) (regimeOf regime .pool) a ≡ x
+      → accessBy ours (regimeOf regime) m a (heldIn e (ours .page (regimeOf regime) a)) x ≡ accessIn ours (regimeIn regime set) m a e
+  access-set f x h =
+      access-checked (regimeOf regime) m a (heldIn e (ours .page (regimeOf regime) a)) x h
+      ∙ ap (λ (b : Bool). accessIn ours (pick b (some (regimeOf regime)) none) m a e) (sym f)
+
+-- ---- a miss
+
+module _ (r : Regime) (m : List ℕ) (a : Access) (u : usable r ≡ true) (h : r .pool .start + r .pool .length ≤ length m) where
+  pub miss-outcome : (w : WalkedStruct) (x : List ℕ) (k : ℕ) → k ≡ r .pool .length
+      → outcome (w .answer) x ≡ walkPool r a (take k (drop (r .pool .start) m)) → keptLeaf (w .kept) ≡ keptPool r a (take k (drop (r .pool .start) m))
+      → walkedView w (take (r .pool .start) m ++ (x ++ drop k (drop (r .pool .start) m))) ≡ walked ours r m a
+  miss-outcome w x k q e f =
+      let s = r .pool .start in
+      let p = walkPool r a (take (r .pool .length) (drop s m)) in
+      let e2 : outcome (w .answer) x ≡ p = rw q at e in
+      let f2 : keptLeaf (w .kept) ≡ keptPool r a (take (r .pool .length) (drop s m)) = rw q at f in
+      let g : view (w .answer) ≡ p .result = ap (λ (o : Outcome). o .result) e2 in
+      let b : x ≡ p .bytes = ap (λ (o : Outcome). o .bytes) e2 in
+      rw (q, put-back m x s (r .pool .length), f2, g, b) (sym (walked-pool r m a (usable-sized r u) (usable-root r (a .address .0) u) h u))
+
+pub unusable-outcome : (r : Regime) (m : List ℕ) (a : Access) (w : Walked) → usable r ≡ false → w ≡ walkFrom ours r m a (lost (codeOf Translation 0) 0 0) → w ≡ walked ours r m a
+unfolding located
+unusable-outcome r m a w u e = e ∙ rw u
+
+-- ---- the leaf that an access keeps stands at a level
+
+abbrev Low : Option Leaf → Type 0
+Low none = Unit {0}
+Low (some l) = l .left ≤ 3
+
+low-walk : (r : Regime) (m : List ℕ) (a : Access) (x : Spot) → located r m (ours .page r a) ≡ x → Low (walkFrom ours r m a x .kept)
+low-walk r m a (lost code level n) q = tt
+low-walk r m a (foundAt at u n) q = by (cacheableIn (judged r u a))
+  where
+    by : (b : Bool) → Low (pick b (some (revalued u (stamped (judged r u a) (u .value)))) none)
+    by true = in-the-pool r m (ours .page r a) (where-found r m (ours .page r a) q) .reached .low
+    by false = tt
+
+low-held : (r : Regime) (m : List ℕ) (a : Access) (h : Option Leaf) → Low (accessHeld ours r m a h .kept)
+low-held r m a none = low-walk r m a (located r m (ours .page r a)) refl
+low-held r m a (some h) = by (dirtiedIn (judged r h a))
+  where
+    by : (b : Bool) → Low (pick b (walked ours r m a) (hitWith r m a (answered (judged r h a) 0)) .kept)
+    by true = low-walk r m a (located r m (ours .page r a)) refl
+    by false = tt
+
+low-by : (r : Regime) (m : List ℕ) (a : Access) (h : Option Leaf) (x : Checked) → Low (accessBy ours r m a h x .kept)
+low-by r m a h Accepted = low-held r m a h
+low-by r m a h (Refused x) = tt
+
+low-in : (g : Option Regime) (m : List ℕ) (a : Access) (e : Entry) → Low (accessIn ours g m a e .kept)
+low-in none m a e = tt
+low-in (some r) m a e = low-by r m a (heldIn e (ours .page r a)) (andThen (ours .memoryCheck r (length m)) (ours .accessCheck a))
+
+-- so the entry that it leaves holds it
+abbrev pub keptIn : Entry → ℕ → Option Leaf → Entry
+keptIn e page none = e
+keptIn e page (some leaf) = holds page leaf
+
+kept-by : (e : EntryStruct) (page : ℕ) (k : Option Leaf) → Low k → entryView (keptEntry e page k) ≡ keptIn (entryView e) page k
+kept-by e page none h = refl
+kept-by e page (some leaf) h = kept-view page leaf h
+
+pub accessed-view : (g : Option Regime) (m : List ℕ) (a : Access) (e : EntryStruct)
+    → entryView (keptEntry e (pageFor a) (accessIn ours g m a (entryView e) .kept)) ≡ keptIn (entryView e) (pageFor a) (accessIn ours g m a (entryView e) .kept)
+accessed-view g m a e = kept-by e (pageFor a) (accessIn ours g m a (entryView e) .kept) (low-in g m a (entryView e))
+
+-- ---- a hit
+
+-- a reply that the entry gives is the access, and changes nothing
+pub hit-is-access : (g : Option Regime) (m : List ℕ) (a : Access) (e : Entry) (reply : Reply) → some reply ≡ entryReply (length m) a e g
+    → record { reply = reply; memory = m; kept = none } ≡ accessIn ours g m a e
+hit-is-access none m a e reply h = clash (cc)
+hit-is-access (some r) m a e reply h = by (sessionAccessCheck (length m) (r .pool) a) refl h
+  where
+    by : (x : Checked) → sessionAccessCheck (length m) (r .pool) a ≡ x → some reply ≡ checkedReply x (entryAnswer ours r a e) → hitWith r m a reply ≡ accessIn ours (some r) m a e
+    by (Refused x) q h = clash (cc)
+    by Accepted q h = hit-gives r m a (heldIn e (ours .page r a)) reply h ∙ access-checked r m a (heldIn e (ours .page r a)) Accepted q
+
+-- where there is one, the entry's reply is the entry's answer
+pub hit-reply : (n : ℕ) (a : Access) (e : Entry) (regime : RegimeWords) (set : ℕ) → isHit (hitKindIn (entryReply n a e (regimeIn regime set))) ≡ true → entryReply n a e (regimeIn regime set) ≡ entryAnswer ours (regimeOf regime) a e
+hit-reply n a e regime set t = by (flag set) t
+  where
+    accepted : (x : Checked) → isHit (hitKindIn (checkedReply x (entryAnswer ours (regimeOf regime) a e))) ≡ true → checkedReply x (entryAnswer ours (regimeOf regime) a e) ≡ entryAnswer ours (regimeOf regime) a e
+    accepted Accepted t = refl
+    accepted (Refused x) t = clash (cc)
+
+    by : (b : Bool) → isHit (hitKindIn (entryReply n a e (pick b (some (regimeOf regime)) none))) ≡ true → entryReply n a e (pick b (some (regimeOf regime)) none) ≡ entryAnswer ours (regimeOf regime) a e
+    by true t = accepted (sessionAccessCheck n (regimeOf regime .pool) a) t
+    by false t = clash (cc)
+
+-- and the call is accepted, so its size is positive
+pub hit-size : (n : ℕ) (a : Access) (e : Entry) (regime : RegimeWords) (set : ℕ) → isHit (hitKindIn (entryReply n a e (regimeIn regime set))) ≡ true → 0 < a .size
+hit-size n a e regime set t = by (flag set) t
+  where
+    accepted : (x : Checked) → sessionAccessCheck n (regimeOf regime .pool) a ≡ x → isHit (hitKindIn (checkedReply x (entryAnswer ours (regimeOf regime) a e))) ≡ true → 0 < a .size
+    accepted Accepted h t = access-accepted n (regimeOf regime .pool) a h .1
+    accepted (Refused x) h t = clash (cc)
+
+    by : (b : Bool) → isHit (hitKindIn (entryReply n a e (pick b (some (regimeOf regime)) none))) ≡ true → 0 < a .size
+    by true t = accepted (sessionAccessCheck n (regimeOf regime .pool) a) refl t
+    by false t = clash (cc)

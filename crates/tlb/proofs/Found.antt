@@ -1,0 +1,52 @@
+-- Where a lookup of a page finds its leaf.
+use Prim.Native.Nat.{ℕ, _*_}
+use mathlib.Core.Bool.{Bool, true, false}
+use mathlib.Core.List.{List}
+use mathlib.Core.Path.{_≡_, refl, ap}
+use lib.ListN.{length}
+use Rattle.descriptor.specs.Bits.{pick}
+use Rattle.descriptor.proofs.Tests.{clash}
+use Rattle.vmsa.specs.Limits.{pageBits}
+use Rattle.vmsa.specs.Answers.{codeOf}
+use Rattle.vmsa.specs.declared.Regime.{Regime}
+use Rattle.vmsa.specs.declared.Leaf.{Leaf}
+use Rattle.vmsa.specs.declared.FaultKind.the-variants.{Translation}
+use Rattle.geometry.specs.Geometry.{pageSize}
+use Rattle.lookup.specs.Trace.{End, fault, leaf}
+use Rattle.walk.specs.Walk.{poolBytes, traced}
+use Rattle.walk.proofs.Ends.{Found, found}
+use Rattle.tlb.specs.Walker.{lost, found as foundAt}
+use Rattle.tlb.specs.Ours.{usable, offsetOf, spotAt, spotOf, located}
+use Rattle.tlb.proofs.Walking.{usable-sized, usable-root}
+
+-- the descriptor's physical address, and the trace that ends there
+pub record Where (r : Regime) (m : List ℕ) (p at : ℕ) (u : Leaf) (n : ℕ) : Type 0 where
+  pub regime : usable r ≡ true
+  pub address : ℕ
+  pub end : traced r (poolBytes (r .pool) m) (p * pageSize pageBits) .end ≡ leaf address (u .value) (u .left)
+  pub offset : offsetOf r address ≡ at
+  pub count : length (traced r (poolBytes (r .pool) m) (p * pageSize pageBits) .visited) ≡ n
+
+spot-found : (r : Regime) (k : ℕ) (e : End) (at : ℕ) (u : Leaf) (n : ℕ) → spotAt r k e ≡ foundAt at u n
+    → (address : ℕ) × (e ≡ leaf address (u .value) (u .left)) × (offsetOf r address ≡ at) × (k ≡ n)
+spot-found r k (fault kind level) at u n q = clash (cc)
+spot-found r k (leaf a v left) at u n q =
+    let l : _≡_ {A = Leaf} (record { value = v; left = left }) u = cc in
+    (a, ap (λ (x : Leaf). leaf a (x .value) (x .left)) l, cc, cc)
+
+pub where-found : (r : Regime) (m : List ℕ) (p : ℕ) {at : ℕ} {u : Leaf} {n : ℕ} → located r m p ≡ foundAt at u n → Where r m p at u n
+unfolding located
+where-found r m p {at} {u} {n} q = by (usable r) refl q
+  where
+    by : (b : Bool) → usable r ≡ b → pick b (spotOf r (traced r (poolBytes (r .pool) m) (p * pageSize pageBits))) (lost (codeOf Translation 0) 0 0) ≡ foundAt at u n → Where r m p at u n
+    by true e q =
+        let t = traced r (poolBytes (r .pool) m) (p * pageSize pageBits) in
+        let s = spot-found r (length (t .visited)) (t .end) at u n q in
+        record { regime = e; address = s .0; end = s .1; offset = s .2; count = s .3 }
+    by false e q = clash (cc)
+
+-- the leaf lies in the pool
+pub in-the-pool : (r : Regime) (m : List ℕ) (p : ℕ) {at : ℕ} {u : Leaf} {n : ℕ} (w : Where r m p at u n)
+    → Found r (poolBytes (r .pool) m) (p * pageSize pageBits) (w .address) (u .value) (u .left)
+in-the-pool r m p {u = u} w =
+    found r (poolBytes (r .pool) m) (p * pageSize pageBits) (w .address) (u .value) (u .left) (usable-sized r (w .regime)) (usable-root r (p * pageSize pageBits) (w .regime)) (w .end)

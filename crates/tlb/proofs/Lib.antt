@@ -1,0 +1,5 @@
+pub mod Deciding
+pub mod Walking
+pub mod Entries
+pub mod Found
+pub mod Access

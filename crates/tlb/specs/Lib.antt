@@ -1,0 +1,4 @@
+pub mod Replies
+pub mod Walker
+pub mod Ours
+pub mod Entries
