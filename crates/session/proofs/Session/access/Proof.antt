@@ -1,5 +1,4 @@
 use borrow.Author.Needs.{needs}
-use mathlib.Core.Path.{sym}
 use Rattle.session.proofs.Calls.{entry-leaves}
 use Rattle.session.proofs.Session.access.Statement.{statement}
 use Rattle.session.proofs.Session.access.Tie as tie
