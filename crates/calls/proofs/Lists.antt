@@ -8,17 +8,17 @@ use Rattle.descriptor.proofs.Tests.{clash}
 use Rattle.vmsa.specs.declared.Regime.{Regime}
 use Rattle.tlb.specs.Replies.{Reply}
 use Rattle.session.specs.declared.Session.{Session as SessionStruct}
-use Rattle.session.specs.Model.{Session, Left, Call, setRegime, access, store, dropAll}
+use Rattle.session.specs.Model.{Session, Handed, Call, setRegime, access, store, dropAll}
 use Rattle.session.specs.View.{regimeHeld, leaves}
 use Rattle.session.proofs.Promises.{set-promise, access-promise, store-promise, drop-promise}
-use Rattle.calls.specs.Chains.{Event, event, Functions, Calling, Chain, none-yet, more, regimeAfter, regimeFrom}
-use Rattle.calls.specs.Rule1.{Reach, Rule1Event, Same, Rule1Call, EachCall, Reaches, calls, replies, Rule1List}
-use Rattle.calls.specs.Code.{Made, set-regime, accessed, stored, dropped-all}
-use Rattle.calls.proofs.Rule1.{rule1-call, Leaving, rule1-leaves}
+use Rattle.calls.specs.Chains.{Event, event, Functions, Leaving, Calling, Chain, none-yet, more, regimeAfter, regimeFrom}
+use Rattle.calls.specs.Rule1.{Reach, Rule1Event, Same, Rule1Call, EachCall, Reaches, calls, replies, Rule1List, Rule1OfLists}
+use Rattle.calls.specs.Code.{Made, set-regime, accessed, stored, dropped-all, Rule1OfCall, Rule1OfCode}
+use Rattle.calls.proofs.Rule1.{rule-1-call, rule1-leaves}
 
-module _ {S : Type 0} (regime : S → Option Regime) (F : Functions S) (rule : (s : S) (m : List ℕ) (c : Call) (x : Left S Reply) → F s m c x → Rule1Call regime F s m c x) (s₀ : S) (m₀ : List ℕ) where
+module _ {S : Type 0} (regime : S → Option Regime) (F : Functions S) (rule : (s : S) (m : List ℕ) (c : Call) (x : Handed S Reply) → F s m c x → Rule1Call regime F s m c x) (s₀ : S) (m₀ : List ℕ) where
   -- the session's regime is the one last accepted
-  known : {s : S} {m : List ℕ} {past : List Event} → Chain F s₀ m₀ s m past → regime s ≡ regimeFrom (regime s₀) past
+  pub known : {s : S} {m : List ℕ} {past : List Event} → Chain F s₀ m₀ s m past → regime s ≡ regimeFrom (regime s₀) past
   known none-yet = refl
   known (more {s = s} {m = m} {c = c} {x = x} before made) = rule s m c x made .accepted ∙ ap (regimeAfter c (x .reply)) (known before)
 
@@ -66,14 +66,15 @@ module _ {S : Type 0} (regime : S → Option Regime) (F : Functions S) (rule : (
 
 -- ---- the model
 
-pub rule-1 : (s₀ : Session) (m₀ : List ℕ) {s : Session} {m : List ℕ} {past : List Event} → Chain Calling s₀ m₀ s m past → Rule1List (λ (t : Session). t .regime) Calling s₀ m₀ s m past
-rule-1 s₀ m₀ =
-    rule1-list (λ (t : Session). t .regime) Calling (λ s m c x e. subst⁻¹ (λ (y : Left Session Reply). Rule1Call (λ (t : Session). t .regime) Calling s m c y) e (rule1-call s m c)) s₀ m₀
+pub rule-1 : Rule1OfLists
+rule-1 s₀ m₀ s m past chain =
+    rule1-list (λ (t : Session). t .regime) Calling
+    (λ s m c x e. subst⁻¹ (λ (y : Handed Session Reply). Rule1Call (λ (t : Session). t .regime) Calling s m c y) e (rule-1-call s m c)) s₀ m₀ chain
 
 -- ---- the functions of a session, by their own contracts
 
-made-is : {s : SessionStruct} {m : List ℕ} {c : Call} {x : Left SessionStruct Reply} → Made s m c x → x ≡ leaves s m c
-made-is (set-regime lives s memory r x h) = set-promise lives s memory r x h
+made-is : {s : SessionStruct} {m : List ℕ} {c : Call} {x : Handed SessionStruct Reply} → Made s m c x → x ≡ leaves s m c
+made-is (set-regime lives s memory r after x h) = set-promise lives s memory r after x h
 made-is (accessed lives s memory a after x h) = access-promise lives s memory a after x h
 made-is (stored lives s memory address value after x h) = store-promise lives s memory address value after x h
 made-is (dropped-all s after m h) = drop-promise s after h m
@@ -81,8 +82,8 @@ made-is (dropped-all s after m h) = drop-promise s after h m
 pub made-leaves : Leaving Made
 made-leaves s m c x made = made-is made
 
-pub rule-1-call-code : {s : SessionStruct} {m : List ℕ} {c : Call} {x : Left SessionStruct Reply} → Made s m c x → Rule1Call regimeHeld Made s m c x
-rule-1-call-code {s} {m} {c} {x} made = rule1-leaves Made made-leaves s m c x made
+pub rule-1-call-code : Rule1OfCall
+rule-1-call-code s m c x made = rule1-leaves Made made-leaves s m c x made
 
-pub rule-1-code : (s₀ : SessionStruct) (m₀ : List ℕ) {s : SessionStruct} {m : List ℕ} {past : List Event} → Chain Made s₀ m₀ s m past → Rule1List regimeHeld Made s₀ m₀ s m past
-rule-1-code s₀ m₀ = rule1-list regimeHeld Made (rule1-leaves Made made-leaves) s₀ m₀
+pub rule-1-code : Rule1OfCode
+rule-1-code s₀ m₀ s m past chain = rule1-list regimeHeld Made (rule1-leaves Made made-leaves) s₀ m₀ chain

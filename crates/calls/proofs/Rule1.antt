@@ -28,12 +28,12 @@ use Rattle.tlb.specs.Entries.{entryView, regimeIn, pageFor, entryFor, keptEntry
 use Rattle.tlb.proofs.Walking.{first-append, put-is}
 use Rattle.tlb.proofs.Found.{where-found, in-the-pool}
 use Rattle.session.specs.declared.Session.{Session as SessionStruct}
-use Rattle.session.specs.Model.{Session, Left, left, Stepped, stay, refusal, keep, setBy, learn, accessWith, storeBy, storeIn, Call, setRegime, access, store, dropAll, call}
+use Rattle.session.specs.Model.{Session, Handed, handed, Stepped, stay, refusal, keep, setBy, learn, accessWith, storeBy, storeIn, Call, setRegime, access, store, dropAll, call}
 use Rattle.session.specs.View.{sessionView, regimeHeld, setAfter, entryIn, withEntry, sessionAfter, leaves}
 use Rattle.session.proofs.Calls.{set-checked, store-accepted, access-learn, given, access-is, unkept-same, viewed-leaves}
-use Rattle.calls.specs.Chains.{event, Functions, Calling, regimeAfter}
+use Rattle.calls.specs.Chains.{event, Functions, Leaving, Calling, regimeAfter}
 use Rattle.calls.proofs.Memories.{Written, still, wrote, written-long, written-bytes, written-outside, written-same, pool-same, located-same}
-use Rattle.calls.specs.Rule1.{rowsOf, InPool, Reach, Rule1Event, Same, Rule1Call}
+use Rattle.calls.specs.Rule1.{rowsOf, InPool, Reach, Rule1Event, Same, Rule1Call, Rule1OfModel}
 
 -- ---- a refused call, and any other
 
@@ -288,8 +288,8 @@ rule1-event s m c =
       bytes = written-bytes (written-self s m c);
     }
 
-pub rule1-call : (s : Session) (m : List ℕ) (c : Call) → Rule1Call (λ (t : Session). t .regime) Calling s m c (call ours s m c)
-rule1-call s m c =
+pub rule-1-call : Rule1OfModel
+rule-1-call s m c =
     record {
       told = rule1-event s m c;
       kept = λ k q. refusal-keeps s m c k q .0;
@@ -324,25 +324,21 @@ struct-same s m n (access a) h =
 struct-same s m n (store address value) h = refl
 struct-same s m n dropAll h = refl
 
--- functions whose every call leaves what `leaves` says
-abbrev pub Leaving : Functions SessionStruct → Type 0
-Leaving F = (s : SessionStruct) (m : List ℕ) (c : Call) (x : Left SessionStruct Reply) → F s m c x → x ≡ leaves s m c
-
-pub rule1-leaves : (F : Functions SessionStruct) → Leaving F → (s : SessionStruct) (m : List ℕ) (c : Call) (x : Left SessionStruct Reply) → F s m c x
+pub rule1-leaves : (F : Functions SessionStruct) → Leaving F → (s : SessionStruct) (m : List ℕ) (c : Call) (x : Handed SessionStruct Reply) → F s m c x
     → Rule1Call regimeHeld F s m c x
 rule1-leaves F is s m c x made =
-    let h = rule1-call (sessionView s) m c in
+    let h = rule-1-call (sessionView s) m c in
     let e = is s m c x made in
     record {
-      told = subst⁻¹ (λ (t : Left SessionStruct Reply). Rule1Event (regimeHeld s) (event c m t)) e (h .told);
-      kept = subst⁻¹ (λ (t : Left SessionStruct Reply). (k : ℕ) → t .reply ≡ refused k → t .session ≡ s) e (struct-kept s m c);
+      told = subst⁻¹ (λ (t : Handed SessionStruct Reply). Rule1Event (regimeHeld s) (event c m t)) e (h .told);
+      kept = subst⁻¹ (λ (t : Handed SessionStruct Reply). (k : ℕ) → t .reply ≡ refused k → t .session ≡ s) e (struct-kept s m c);
       accepted =
-          subst⁻¹ (λ (t : Left SessionStruct Reply). regimeHeld (t .session) ≡ regimeAfter c (t .reply) (regimeHeld s)) e
+          subst⁻¹ (λ (t : Handed SessionStruct Reply). regimeHeld (t .session) ≡ regimeAfter c (t .reply) (regimeHeld s)) e
           (ap (λ (y : Stepped). y .session .regime) (viewed-leaves s m c) ∙ h .accepted);
       unheard = λ At f n same y other.
           let u = h .unheard At f n same (call ours (sessionView s) n c) refl in
           let e′ = is s n c y other in
-          subst⁻¹ (λ (t : Left SessionStruct Reply). (x .reply ≡ t .reply) × (x .session ≡ t .session) × Same At (x .memory) (t .memory)) e′
-          (subst⁻¹ (λ (t : Left SessionStruct Reply). (t .reply ≡ leaves s n c .reply) × (t .session ≡ leaves s n c .session) × Same At (t .memory) (leaves s n c .memory)) e
+          subst⁻¹ (λ (t : Handed SessionStruct Reply). (x .reply ≡ t .reply) × (x .session ≡ t .session) × Same At (x .memory) (t .memory)) e′
+          (subst⁻¹ (λ (t : Handed SessionStruct Reply). (t .reply ≡ leaves s n c .reply) × (t .session ≡ leaves s n c .session) × Same At (t .memory) (leaves s n c .memory)) e
           (u .0, struct-same s m n c (same-less f same), u .2));
     }

@@ -8,7 +8,9 @@ use Rattle.descriptor.specs.Bits.{pick}
 use Rattle.vmsa.specs.declared.Regime.{Regime}
 use Rattle.tlb.specs.Replies.{Reply, done, refused, answered}
 use Rattle.tlb.specs.Ours.{ours}
-use Rattle.session.specs.Model.{Session, Left, Call, setRegime, access, store, dropAll, call}
+use Rattle.session.specs.declared.Session.{Session as SessionStruct}
+use Rattle.session.specs.View.{leaves}
+use Rattle.session.specs.Model.{Session, Handed, Call, setRegime, access, store, dropAll, call}
 
 -- a call, what it handed back, and the memory that it found and left; nothing of what is stored
 pub record Event : Type 0 where
@@ -17,21 +19,25 @@ pub record Event : Type 0 where
   pub found : List ℕ
   pub left : List ℕ
 
-abbrev pub event : {S : Type 0} → Call → List ℕ → Left S Reply → Event
+abbrev pub event : {S : Type 0} → Call → List ℕ → Handed S Reply → Event
 event c m x = record { made = c; reply = x .reply; found = m; left = x .memory }
 
 -- functions over a session in whatever form S: F s m c x says that the call c, made in s and over m, left x
 abbrev pub Functions : Type 0 → Type 1
-Functions S = S → List ℕ → Call → Left S Reply → Type 0
+Functions S = S → List ℕ → Call → Handed S Reply → Type 0
 
 -- the model's own
 abbrev pub Calling : Functions Session
 Calling s m c x = x ≡ call ours s m c
 
+-- functions over a session of the code whose every call leaves what `leaves` says
+abbrev pub Leaving : Functions SessionStruct → Type 0
+Leaving F = (s : SessionStruct) (m : List ℕ) (c : Call) (x : Handed SessionStruct Reply) → F s m c x → x ≡ leaves s m c
+
 -- from a session over a memory: each call gets the session that the last one handed back and the memory as it was left. The last call stands first
 pub data Chain {S : Type 0} (F : Functions S) (s₀ : S) (m₀ : List ℕ) : S → List ℕ → List Event → Type 0 where
   none-yet : Chain F s₀ m₀ s₀ m₀ []
-  more : {s : S} {m : List ℕ} {past : List Event} {c : Call} {x : Left S Reply} → Chain F s₀ m₀ s m past → F s m c x
+  more : {s : S} {m : List ℕ} {past : List Event} {c : Call} {x : Handed S Reply} → Chain F s₀ m₀ s m past → F s m c x
       → Chain F s₀ m₀ (x .session) (x .memory) (event c m x ∷ past)
 
 -- ---- the regime last accepted, from the calls and their replies

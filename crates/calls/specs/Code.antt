@@ -11,12 +11,15 @@ use Rattle.tlb.specs.Replies.{Reply, done, replyOf, replyTo}
 use Rattle.session.specs.declared.Session.{Session as SessionStruct}
 use Rattle.session.specs.declared.Changed.{Changed}
 use Rattle.session.specs.declared.Accessed.{Accessed}
-use Rattle.session.specs.Model.{Left, left, Call, setRegime, access, store, dropAll}
+use Rattle.session.specs.Model.{Handed, handed, Call, setRegime, access, store, dropAll}
+use Rattle.session.specs.View.{regimeHeld}
 use Rattle.session.proofs.Session.empty.Reads as Empty
 use Rattle.session.proofs.Session.set_regime.Reads as SetRegime
 use Rattle.session.proofs.Session.access.Reads as AccessOf
 use Rattle.session.proofs.Session.store.Reads as Store
 use Rattle.session.proofs.Session.invalidate_all.Reads as InvalidateAll
+use Rattle.calls.specs.Chains.{Event, Chain}
+use Rattle.calls.specs.Rule1.{Rule1Call, Rule1List}
 
 -- Session::empty() gave s
 abbrev pub Begun : SessionStruct → Type 0
@@ -24,15 +27,23 @@ Begun s = Empty.Learnt tt tt s tt
 
 -- one call: what it got, and what it left. `Learnt` is what the contract of the named function tells whoever called it with these
 -- arguments, got this result, and finds its parameters so at the return
-pub data Made : SessionStruct → List ℕ → Call → Left SessionStruct Reply → Type 0 where
-  set-regime : (lives : Lfts 1) (s : SessionStruct) (memory : RefT (List ℕ)) (r : Regime) (x : Changed)
-      → SetRegime.Learnt lives (s, (memory, (r, tt))) x (s, (memory, (r, tt)))
-      → Made s (memory .now) (setRegime r) (left (x .session) (memory .now) (replyTo (x .reply)))
+pub data Made : SessionStruct → List ℕ → Call → Handed SessionStruct Reply → Type 0 where
+  set-regime : (lives : Lfts 1) (s : SessionStruct) (memory : RefT (List ℕ)) (r : Regime) (after : List ℕ) (x : Changed)
+      → SetRegime.Learnt lives (s, (memory, (r, tt))) x (s, (at-last memory after, (r, tt)))
+      → Made s (memory .now) (setRegime r) (handed (x .session) after (replyTo (x .reply)))
   accessed : (lives : Lfts 1) (s : SessionStruct) (memory : RefT (List ℕ)) (a : Access) (after : List ℕ) (x : Accessed)
       → AccessOf.Learnt lives (s, (memory, (a, tt))) x (s, (at-last memory after, (a, tt)))
-      → Made s (memory .now) (access a) (left (x .session) after (replyOf (view (x .answer))))
+      → Made s (memory .now) (access a) (handed (x .session) after (replyOf (view (x .answer))))
   stored : (lives : Lfts 1) (s : SessionStruct) (memory : RefT (List ℕ)) (address : PhysAddr) (value : ℕ) (after : List ℕ) (x : Changed)
       → Store.Learnt lives (s, (memory, (address, (value, tt)))) x (s, (at-last memory after, (address, (value, tt))))
-      → Made s (memory .now) (store (address .0) value) (left (x .session) after (replyTo (x .reply)))
+      → Made s (memory .now) (store (address .0) value) (handed (x .session) after (replyTo (x .reply)))
   dropped-all : (s after : SessionStruct) (m : List ℕ) → InvalidateAll.Learnt tt (s, tt) after (s, tt)
-      → Made s m dropAll (left after m done)
+      → Made s m dropAll (handed after m done)
+
+-- ---- rule 1 of these functions: any call, in any session and over any memory; and every list of calls
+
+abbrev pub Rule1OfCall : Type 1
+Rule1OfCall = (s : SessionStruct) (m : List ℕ) (c : Call) (x : Handed SessionStruct Reply) → Made s m c x → Rule1Call regimeHeld Made s m c x
+
+abbrev pub Rule1OfCode : Type 1
+Rule1OfCode = (s₀ : SessionStruct) (m₀ : List ℕ) (s : SessionStruct) (m : List ℕ) (past : List Event) → Chain Made s₀ m₀ s m past → Rule1List regimeHeld Made s₀ m₀ s m past

@@ -14,8 +14,9 @@ use Rattle.vmsa.specs.declared.Refusal.the-variants.{NoRegime}
 use Rattle.checks.specs.Order.{memoryRows, regimeRows, accessRows, storeRows}
 use Rattle.rules.specs.Rule1.{FirstNumber}
 use Rattle.tlb.specs.Replies.{Reply, refused}
-use Rattle.session.specs.Model.{Left, Call, setRegime, access, store, dropAll}
-use Rattle.calls.specs.Chains.{Event, event, Functions, Chain, regimeAfter, regimeFrom}
+use Rattle.tlb.specs.Ours.{ours}
+use Rattle.session.specs.Model.{Session, Handed, Call, setRegime, access, store, dropAll, call}
+use Rattle.calls.specs.Chains.{Event, event, Functions, Calling, Chain, regimeAfter, regimeFrom}
 
 -- ---- what each call is checked for, and the bytes that it reaches
 
@@ -63,7 +64,7 @@ pub record Same (At : ℕ → Type 0) (m n : List ℕ) : Type 0 where
   pub bytes : (i : ℕ) → At i → getD m i 0 ≡ getD n i 0
 
 module _ {S : Type 0} (regime : S → Option Regime) (F : Functions S) where
-  pub record Rule1Call (s : S) (m : List ℕ) (c : Call) (x : Left S Reply) : Type 1 where
+  pub record Rule1Call (s : S) (m : List ℕ) (c : Call) (x : Handed S Reply) : Type 1 where
     pub told : Rule1Event (regime s) (event c m x)
     -- a refusal changes no session either
     pub kept : (k : ℕ) → x .reply ≡ refused k → x .session ≡ s
@@ -71,7 +72,7 @@ module _ {S : Type 0} (regime : S → Option Regime) (F : Functions S) where
     pub accepted : regime (x .session) ≡ regimeAfter c (x .reply) (regime s)
     -- no byte out of reach has a say: the same call over another memory that agrees in reach (and wherever else At says) gives the
     -- same reply and the same session, and the two memories agree there afterwards
-    pub unheard : (At : ℕ → Type 0) → ((i : ℕ) → Reach (regime s) c i → At i) → (n : List ℕ) → Same At m n → (y : Left S Reply) → F s n c y
+    pub unheard : (At : ℕ → Type 0) → ((i : ℕ) → Reach (regime s) c i → At i) → (n : List ℕ) → Same At m n → (y : Handed S Reply) → F s n c y
         → (x .reply ≡ y .reply) × (x .session ≡ y .session) × Same At (x .memory) (y .memory)
 
 -- ---- every list of calls
@@ -103,3 +104,11 @@ module _ {S : Type 0} (regime : S → Option Regime) (F : Functions S) where
     pub unheard : (At : ℕ → Type 0) → Reaches At (regime s₀) past → (n₀ : List ℕ) → Same At m₀ n₀
         → (t : S) (n : List ℕ) (other : List Event) → Chain F s₀ n₀ t n other → calls past ≡ calls other
         → (replies past ≡ replies other) × (s ≡ t) × Same At m n
+
+-- ---- the claim: of the model, any call; and every list of calls
+
+abbrev pub Rule1OfModel : Type 1
+Rule1OfModel = (s : Session) (m : List ℕ) (c : Call) → Rule1Call (λ (t : Session). t .regime) Calling s m c (call ours s m c)
+
+abbrev pub Rule1OfLists : Type 1
+Rule1OfLists = (s₀ : Session) (m₀ : List ℕ) (s : Session) (m : List ℕ) (past : List Event) → Chain Calling s₀ m₀ s m past → Rule1List (λ (t : Session). t .regime) Calling s₀ m₀ s m past

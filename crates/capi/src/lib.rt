@@ -2,7 +2,7 @@
 ghost use mathlib.Core.Path.{_≡_};
 ghost use Rattle.vmsa.specs.Words.{regimeOf};
 ghost use Rattle.tlb.specs.Replies.{told};
-ghost use Rattle.session.specs.Model.{left, setRegime, access as accessing, store};
+ghost use Rattle.session.specs.Model.{handed, setRegime, access as accessing, store};
 ghost use Rattle.session.specs.View.{emptySession, emptied, leaves};
 ghost use Rattle.words.specs.Words.{accessOf, walkWords, refusalByte, replyWords, replied};
 use session::Session;
@@ -51,7 +51,7 @@ pub extern "C" fn vmsa_session_set_regime(
     memory: &[u8],
     regime: &RegimeWords,
 ) -> u8
-    ensures { λ n. ⌜ left (now (session .exit)) (now (memory .entry)) n ≡ replied refusalByte (leaves (now (session .entry)) (now (memory .entry)) (setRegime (regimeOf (now (regime .entry))))) ⌝ }
+    ensures { λ n. ⌜ handed (now (session .exit)) (now (memory .exit)) n ≡ replied refusalByte (leaves (now (session .entry)) (now (memory .entry)) (setRegime (regimeOf (now (regime .entry))))) ⌝ }
 {
     let regime = *regime;
     let x = words::set_words(memory.len(), regime);
@@ -72,7 +72,7 @@ pub extern "C" fn vmsa_session_access(
     memory: &mut [u8],
     access: &AccessWords,
 ) -> AnswerWords
-    ensures { λ w. ⌜ left (now (session .exit)) (now (memory .exit)) w ≡ replied replyWords (leaves (now (session .entry)) (now (memory .entry)) (accessing (accessOf (now (access .entry))))) ⌝ }
+    ensures { λ w. ⌜ handed (now (session .exit)) (now (memory .exit)) w ≡ replied replyWords (leaves (now (session .entry)) (now (memory .entry)) (accessing (accessOf (now (access .entry))))) ⌝ }
 {
     let access = *access;
     let i = words::entry_of(access);
@@ -94,7 +94,7 @@ pub extern "C" fn vmsa_session_store(
     address: u64,
     value: u64,
 ) -> u8
-    ensures { λ n. ⌜ left (now (session .exit)) (now (memory .exit)) n ≡ replied refusalByte (leaves (now (session .entry)) (now (memory .entry)) (store address value)) ⌝ }
+    ensures { λ n. ⌜ handed (now (session .exit)) (now (memory .exit)) n ≡ replied refusalByte (leaves (now (session .entry)) (now (memory .entry)) (store address value)) ⌝ }
 {
     words::store_words(session.regime, session.set, memory, address, value)
 }

@@ -27,7 +27,7 @@ use Rattle.tlb.specs.Walker.{Walker, Spot, lost, found, andThen, noRegime, Entr
 use Rattle.session.specs.Model.{noEntries, held, keep, Session, fresh, Stepped, stay, refusal as refusing, Call, setRegime, access, store, dropAll, setBy, setCall, dropCall, storeBy, storeIn, storeCall, learn, accessWith, accessCall, call}
 use Rattle.calls.specs.Chains.{Event, event}
 use Rattle.rule3.specs.Events.{World, start, after, next, run, lastRegime, empties, asksDrop, settled, Moment, counted, anyCount, momentIn, momentOf, orEarlier, latest}
-use Rattle.rule3.specs.Rule3.{plainly, Unrefused, Stored, StoredIn, Alike, AccessIn, Kept, Every, Plainly, Recalled, Remembers, Rule3}
+use Rattle.rule3.specs.Rule3.{plainly, Unrefused, Stored, StoredIn, Alike, AccessIn, KeepsTo, Every, Plainly, Recalled, Remembers, Rule3}
 use Rattle.rule3.specs.Lawful.{unlessRefused, restamped, Admitted, Lawful}
 
 keep-length : (entries : List Entry) (p : ℕ) (k : Option Leaf) → length (keep entries p k) ≡ length entries
@@ -143,7 +143,7 @@ module _ (W : Walker) (L : Lawful W) where
       → length m′ ≡ length m
       → Bytes m′
       → (settled (e ∷ past) ≡ true → (i : ℕ) → i < entryCount → FreshEntry m′ (getD (s .entries) i empty) (latest W counted past i))
-      → Kept W past (e .made) (e .reply) (e .found) (e .left)
+      → KeepsTo W past (e .made) (e .reply) (e .found) (e .left)
       → Inv s m′ (e ∷ past)
   carry {s} {m} {m′} {past} e I hr hl ha hs hb hf hk =
       record {
@@ -164,7 +164,7 @@ module _ (W : Walker) (L : Lawful W) where
       → ((R : Regime) → o ≡ some R → settingCheck R ≡ Accepted)
       → ((i : ℕ) → latest W counted (e ∷ past) i ≡ none)
       → ((i : ℕ) → latest W anyCount (e ∷ past) i ≡ none)
-      → Kept W past (e .made) (e .reply) (e .found) (e .left)
+      → KeepsTo W past (e .made) (e .reply) (e .found) (e .left)
       → Inv (record { regime = o; entries = noEntries }) m (e ∷ past)
   emptied {m} {past} o e hb ev hr hv hc ha hk =
       record {
@@ -340,7 +340,7 @@ module _ (W : Walker) (L : Lawful W) where
               getD-set-other (s .entries) (entryOf (page R a)) i (holds (page R a) h′) empty (λ z. eqb-false (entryOf (page R a)) i k (sym z))
 
           -- the walk fills its place
-          filled : cacheableIn o ≡ true → Kept W past (access a) (answered o n) m m′
+          filled : cacheableIn o ≡ true → KeepsTo W past (access a) (answered o n) m m′
               → Inv (record { regime = s .regime; entries = pl′ }) m′ (seen o n m′ ∷ past)
           filled hb hk =
               record {
@@ -395,7 +395,7 @@ module _ (W : Walker) (L : Lawful W) where
                   (fresh-place (getD (s .entries) i empty) (latest W counted past i) (I .matches i lt) (I .fresh-in st i lt))
 
           -- the walk leaves its place alone
-          passed : cacheableIn o ≡ false → Kept W past (access a) (answered o n) m m′ → Inv s m′ (seen o n m′ ∷ past)
+          passed : cacheableIn o ≡ false → KeepsTo W past (access a) (answered o n) m m′ → Inv s m′ (seen o n m′ ∷ past)
           passed hb hk =
               carry (seen o n m′) I refl (unnamed counted o n m′ (ap (λ (x : Bool). x && counted n) hb))
               (λ i lt. ap pageAt (unnamed anyCount o n m′ (ap (λ (x : Bool). x && true) hb) i) ∙ I .last i lt)
@@ -406,7 +406,7 @@ module _ (W : Walker) (L : Lawful W) where
           reached : plainly W R m a ≡ toldOf (walked W R m a) → Then m past (access a) (learn W s (page R a) (landed W R m at u n o))
           reached pe = go (cacheableIn o) refl
             where
-              hk : Kept W past (access a) (answered o n) m m′
+              hk : KeepsTo W past (access a) (answered o n) m m′
               hk = (tt, alike (toldOf (landed W R m at u n o)) (answered o n) m′ (pe ∙ ap (λ (x : Spot). toldOf (walkFrom W R m a x)) e) refl refl)
 
               go : (b : Bool) → cacheableIn o ≡ b

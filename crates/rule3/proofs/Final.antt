@@ -22,17 +22,17 @@ use Rattle.tlb.specs.Walker.{andThen, Walked, walked}
 use Rattle.tlb.specs.Ours.{offsetOf, ours}
 use Rattle.tlb.proofs.Walking.{first-append, walked-pool}
 use Rattle.session.specs.declared.Session.{Session as SessionStruct}
-use Rattle.session.specs.Model.{Session, Left, Stepped, fresh, Call, setRegime, access, store, dropAll}
+use Rattle.session.specs.Model.{Session, Handed, Stepped, fresh, Call, setRegime, access, store, dropAll}
 use Rattle.session.specs.View.{sessionView, viewed}
 use Rattle.session.proofs.Calls.{store-accepted, viewed-leaves}
 use Rattle.session.proofs.Promises.{empty-promise}
-use Rattle.calls.specs.Chains.{Event, event, Functions, Chain, none-yet, more, isDone}
+use Rattle.calls.specs.Chains.{Event, event, Functions, Leaving, Chain, none-yet, more, isDone}
 use Rattle.calls.specs.Code.{Begun, Made}
-use Rattle.calls.proofs.Rule1.{Leaving}
 use Rattle.calls.proofs.Lists.{made-leaves}
-use Rattle.rule3.specs.Events.{start, run, lastRegime, empties, asksDrop, settled, isDrop, dropped}
+use Rattle.rule3.specs.Events.{lastRegime, empties, asksDrop, settled, isDrop, dropped}
 use Rattle.rule3.specs.Rule3.{plainly, Remembers, Rule3}
 use Rattle.rule3.specs.Lawful.{unlessRefused, Lawful}
+use Rattle.rule3.specs.Code.{Rule3OfModel, worldAt, Rule3From, NextFrom, Rule3OfCode, NextOfCode}
 use Rattle.rule3.proofs.Coherence.{Inv, step, begin, claim, rule3}
 use Rattle.rule3.proofs.Agreement.{unmarked, quiet, Agree, agree-self, agree-same, agree-still, agree-mark}
 use Rattle.rule3.proofs.Memory.{reads, one, marks, leaf-room, accepted-usable}
@@ -104,42 +104,36 @@ lawful =
     }
 
 -- rule 3: for every list of calls, from the fresh session over a memory of any length and bytes
-pub rule-3 : (calls : List Call) (memory : List ℕ) → Bytes memory → Rule3 ours (run ours (start memory) calls)
+pub rule-3 : Rule3OfModel
 rule-3 = rule3 ours lawful
 
--- ---- functions over a session of the code, from a fresh session over m₀, that leave what `leaves` says
+-- ---- functions over a session of the code, from a fresh session, that leave what `leaves` says
 
-module _ (F : Functions SessionStruct) (is : Leaving F) (s₀ : SessionStruct) (fresh-start : sessionView s₀ ≡ fresh) (m₀ : List ℕ) (b : Bytes m₀) where
-  chain-inv : {s : SessionStruct} {m : List ℕ} {past : List Event} → Chain F s₀ m₀ s m past → Inv ours lawful (sessionView s) m past
-  chain-inv none-yet = subst⁻¹ (λ (x : Session). Inv ours lawful x m₀ []) fresh-start (begin ours lawful m₀ b)
-  chain-inv (more {s = s} {m = m} {past = past} {c = c} {x = x} before made) =
+module _ (F : Functions SessionStruct) (is : Leaving F) (s₀ : SessionStruct) (fresh-start : sessionView s₀ ≡ fresh) where
+  chain-inv : (m₀ : List ℕ) → Bytes m₀ → {s : SessionStruct} {m : List ℕ} {past : List Event} → Chain F s₀ m₀ s m past → Inv ours lawful (sessionView s) m past
+  chain-inv m₀ b none-yet = subst⁻¹ (λ (x : Session). Inv ours lawful x m₀ []) fresh-start (begin ours lawful m₀ b)
+  chain-inv m₀ b (more {s = s} {m = m} {past = past} {c = c} {x = x} before made) =
       subst⁻¹ (λ (y : Stepped). Inv ours lawful (y .session) (y .memory) (event c m y ∷ past)) (ap viewed (is s m c x made) ∙ viewed-leaves s m c)
-      (step ours lawful (sessionView s) m past (chain-inv before) c)
+      (step ours lawful (sessionView s) m past (chain-inv m₀ b before) c)
 
-  pub rule-3-of : {s : SessionStruct} {m : List ℕ} {past : List Event} → Chain F s₀ m₀ s m past → Rule3 ours (record { session = sessionView s; memory = m; past = past })
-  rule-3-of {s} {m} {past} chain = claim ours lawful (sessionView s) m past (chain-inv chain)
+  pub rule-3-of : Rule3From F s₀
+  rule-3-of m₀ b s m past chain = claim ours lawful (sessionView s) m past (chain-inv m₀ b chain)
 
-  -- and a new access by one of the functions, over any bytes of the same length
-  pub rule-3-next-of : {s : SessionStruct} {m : List ℕ} {past : List Event} → Chain F s₀ m₀ s m past → (r : Regime) → lastRegime past ≡ some r
-      → (a : Access) (n : List ℕ) → length n ≡ length m → (x : Left SessionStruct Reply) → F s n (access a) x
-      → Remembers ours (record { session = sessionView s; memory = m; past = past }) r a n (x .reply) (x .memory)
-  rule-3-next-of {s} {m} {past} chain r q a n size x made =
-      subst⁻¹ (λ (y : Left SessionStruct Reply). Remembers ours (record { session = sessionView s; memory = m; past = past }) r a n (y .reply) (y .memory)) (is s n (access a) x made)
-      (rule-3-of chain .remembers r q a n size)
+  pub rule-3-next-of : NextFrom F s₀
+  rule-3-next-of m₀ b s m past chain r q a n size x made =
+      subst⁻¹ (λ (y : Handed SessionStruct Reply). Remembers ours (worldAt s m past) r a n (y .reply) (y .memory)) (is s n (access a) x made)
+      (rule-3-of m₀ b s m past chain .remembers r q a n size)
 
 -- ---- the functions of a session, by their own contracts
 
 begun-fresh : (s : SessionStruct) → Begun s → sessionView s ≡ fresh
 begun-fresh s h = ap sessionView (empty-promise s h)
 
-pub rule-3-code : (s₀ : SessionStruct) → Begun s₀ → (m₀ : List ℕ) → Bytes m₀ → {s : SessionStruct} {m : List ℕ} {past : List Event} → Chain Made s₀ m₀ s m past
-    → Rule3 ours (record { session = sessionView s; memory = m; past = past })
-rule-3-code s₀ h m₀ b chain = rule-3-of Made made-leaves s₀ (begun-fresh s₀ h) m₀ b chain
+pub rule-3-code : Rule3OfCode
+rule-3-code s₀ h = rule-3-of Made made-leaves s₀ (begun-fresh s₀ h)
 
-pub rule-3-next : (s₀ : SessionStruct) → Begun s₀ → (m₀ : List ℕ) → Bytes m₀ → {s : SessionStruct} {m : List ℕ} {past : List Event} → Chain Made s₀ m₀ s m past
-    → (r : Regime) → lastRegime past ≡ some r → (a : Access) (n : List ℕ) → length n ≡ length m → (x : Left SessionStruct Reply) → Made s n (access a) x
-    → Remembers ours (record { session = sessionView s; memory = m; past = past }) r a n (x .reply) (x .memory)
-rule-3-next s₀ h m₀ b chain r q a n size x made = rule-3-next-of Made made-leaves s₀ (begun-fresh s₀ h) m₀ b chain r q a n size x made
+pub rule-3-next : NextOfCode
+rule-3-next s₀ h = rule-3-next-of Made made-leaves s₀ (begun-fresh s₀ h)
 
 -- ---- the customer's word "drop": it is one way to be settled
 

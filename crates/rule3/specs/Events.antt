@@ -47,7 +47,7 @@ empties (access a) reply = false
 empties (store address value) reply = false
 empties dropAll reply = true
 
--- a call that asks for a drop, by the regime before it and the memory that it found: an accepted store
+-- a call that asks for a drop: an accepted store, whatever the regime o before it and the memory that it found
 abbrev pub asksDrop : Option Regime → Event → Call → Bool
 asksDrop o e (setRegime R) = false
 asksDrop o e (access a) = false

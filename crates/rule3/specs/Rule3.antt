@@ -47,15 +47,15 @@ AccessIn W none isSettled a reply m left = reply ≡ refused noRegime
 AccessIn W (some R) isSettled a reply m left = isSettled ≡ true → Alike W R m a reply left
 
 -- what each call keeps to, by the calls before it: set regime, drop all and every refused call leave each byte as they found it
-abbrev pub Kept : Walker → List Event → Call → Reply → List ℕ → List ℕ → Type 0
-Kept W before (setRegime R) reply m left = left ≡ m
-Kept W before (access a) reply m left = Unrefused reply (left ≡ m) (Unit {0}) × AccessIn W (lastRegime before) (settled before) a reply m left
-Kept W before (store address value) reply m left = Unrefused reply (left ≡ m) (StoredIn W (lastRegime before) address value m left)
-Kept W before dropAll reply m left = left ≡ m
+abbrev pub KeepsTo : Walker → List Event → Call → Reply → List ℕ → List ℕ → Type 0
+KeepsTo W before (setRegime R) reply m left = left ≡ m
+KeepsTo W before (access a) reply m left = Unrefused reply (left ≡ m) (Unit {0}) × AccessIn W (lastRegime before) (settled before) a reply m left
+KeepsTo W before (store address value) reply m left = Unrefused reply (left ≡ m) (StoredIn W (lastRegime before) address value m left)
+KeepsTo W before dropAll reply m left = left ≡ m
 
 abbrev pub Every : Walker → List Event → Type 0
 Every W [] = Unit {0}
-Every W (e ∷ before) = Kept W before (e .made) (e .reply) (e .found) (e .left) × Every W before
+Every W (e ∷ before) = KeepsTo W before (e .made) (e .reply) (e .found) (e .left) × Every W before
 
 -- ---- after the list: a new access
 

@@ -5,3 +5,4 @@ pub mod Updates
 pub mod Walks
 pub mod Rule1
 pub mod Rule2
+pub mod Calls

@@ -1,3 +1,4 @@
 pub mod Rule1
 pub mod Steps
 pub mod Rule2
+pub mod Code

@@ -28,7 +28,7 @@ use Rattle.session.proofs.Calls.{access-learn}
 use Rattle.words.specs.declared.AnswerWords.{AnswerWords}
 use Rattle.words.specs.Words.{wordsOf, countedWords, refusalByte, replyWords}
 use Rattle.words.proofs.Reply.{reply-words, not-zero}
-use Rattle.rules_c.specs.Readings.{successIn, resultIn, answerReply, numberReply}
+use Rattle.rules_c.specs.Readings.{successIn, faultIn, resultIn, answerReply, numberReply}
 
 flag-byte : (b : Bool) → flag (flagByte b) ≡ b
 flag-byte true = refl
@@ -56,6 +56,12 @@ module _ (w : AnswerWords) where
       by : resultIn w ≡ success (successIn w)
       by = rw t
 
+  pub of-fault : (x : Result) → w ≡ wordsOf x → w .tag ≡ 1 → x ≡ fault (faultIn w)
+  of-fault x e t = sym (ap resultIn e ∙ result-in x) ∙ by
+    where
+      by : resultIn w ≡ fault (faultIn w)
+      by = rw t
+
 pub is-success : (x : Result) (s : Success) → x ≡ success s → wordsOf x .tag ≡ 0
 unfolding wordsOf
 is-success x s e = rw e
@@ -74,9 +80,15 @@ of-refused (success s) t = clash (cc)
 of-refused (fault f) t = clash (cc)
 of-refused (refused n) t = refl
 
+-- a refusal is read as one, and no other answer is
+pub refused-read : (x : Result) (k : ℕ) → replyOf x ≡ refusedWith k → x ≡ refused k
+refused-read (success s) k e = clash (cc)
+refused-read (fault f) k e = clash (cc)
+refused-read (refused n) k e = let z : n ≡ k = cc in ap refused z
+
 -- ---- every reply of an access is an answer's
 
-abbrev AnAnswer : Reply → Type 0
+abbrev pub AnAnswer : Reply → Type 0
 AnAnswer reply = (x : Result) × (reply ≡ replyOf x)
 
 module _ (m : List ℕ) (a : Access) where
@@ -100,12 +112,13 @@ module _ (m : List ℕ) (a : Access) where
   in-answer none e = (refused noRegime, refl)
   in-answer (some r) e = by-answer r (heldIn e (ours .page r a)) (andThen (firstOf (memoryRows (length m) (r .pool))) (firstOf (accessRows a)))
 
+pub access-answer : (s : Session) (m : List ℕ) (a : Access) → AnAnswer (call ours s m (access a) .reply)
+access-answer s m a =
+    let x = in-answer m a (s .regime) (getD (s .entries) (entryFor a) empty) in
+    (x .0, ap (λ (y : Stepped). y .reply) (sym (access-learn s m a (s .regime))) ∙ x .1)
+
 pub access-read : (s : Session) (m : List ℕ) (a : Access) → answerReply (replyWords (call ours s m (access a) .reply)) ≡ call ours s m (access a) .reply
-access-read s m a =
-    let e = getD (s .entries) (entryFor a) empty in
-    let x = in-answer m a (s .regime) e in
-    let q : call ours s m (access a) .reply ≡ replyOf (x .0) = ap (λ (y : Stepped). y .reply) (sym (access-learn s m a (s .regime))) ∙ x .1 in
-    subst⁻¹ (λ (y : Reply). answerReply (replyWords y) ≡ y) q (answer-in (x .0))
+access-read s m a = let x = access-answer s m a in subst⁻¹ (λ (y : Reply). answerReply (replyWords y) ≡ y) (x .1) (answer-in (x .0))
 
 -- ---- and every reply of a set regime or a store is done or a refusal's
 
@@ -148,6 +161,15 @@ unfolding wordsOf
 clean-words (success s) e = clean-byte (s .dirtied) e
 clean-words (fault f) e = refl
 clean-words (refused n) e = refl
+
+clean-flag : (b : Bool) → b ≡ false → flagByte b ≡ 0
+clean-flag b e = rw e
+
+pub clean-read : (x : Result) → dirties (replyOf x) ≡ false → wordsOf x .dirtied ≡ 0
+unfolding wordsOf
+clean-read (success s) e = clean-flag (s .dirtied) e
+clean-read (fault f) e = refl
+clean-read (refused n) e = refl
 
 pub dirty-words : (x : Result) → (wordsOf x .dirtied ≡ 0 → ⊥) → dirties (replyOf x) ≡ true
 unfolding wordsOf

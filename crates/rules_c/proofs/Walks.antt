@@ -9,6 +9,8 @@ use Rattle.vmsa.specs.Words.{regimeOf}
 use Rattle.vmsa.specs.declared.Regime.{Regime}
 use Rattle.vmsa.specs.declared.RegimeWords.{RegimeWords}
 use Rattle.vmsa.specs.declared.Access.{Access}
+use Rattle.checks.specs.declared.Checked.the-variants.{Accepted}
+use Rattle.checks.specs.Order.{walkCheck}
 use Rattle.walk.specs.Walk.{walk, poolBytes}
 use Rattle.rules.specs.Rule2.{traceOf}
 use Rattle.rules.proofs.Rule1.{rule1}
@@ -17,10 +19,9 @@ use Rattle.tlb.specs.Replies.{Told, told}
 use Rattle.words.specs.declared.AccessWords.{AccessWords}
 use Rattle.words.specs.declared.AnswerWords.{AnswerWords}
 use Rattle.words.specs.Words.{accessOf, wordsOf, walkWords}
-use Rattle.capi.proofs.Promises.{WalkSays}
-use Rattle.rules_c.specs.Readings.{successIn}
-use Rattle.rules_c.specs.RulesC.{WalkRules}
-use Rattle.rules_c.proofs.Numbers.{of-success, is-success, is-fault, is-refused, of-refused}
+use Rattle.rules_c.specs.Readings.{successIn, faultIn}
+use Rattle.rules_c.specs.RulesC.{WalkRules, WalkOfC}
+use Rattle.rules_c.proofs.Numbers.{of-success, is-success, of-fault, is-fault, is-refused, of-refused}
 
 module _ (m : List ℕ) (g : RegimeWords) (a : AccessWords) where
   abbrev R : Regime
@@ -37,6 +38,10 @@ module _ (m : List ℕ) (g : RegimeWords) (a : AccessWords) where
 
   succeeded : w .tag ≡ 0 → x ≡ success (successIn w)
   succeeded t = of-success w x refl t
+
+  -- one that is not refused was accepted
+  accepted : w .tag ≢ 2 → walkCheck (length m) R A ≡ Accepted
+  accepted t = rule1 .accepted R A m .1 (λ k e. t (is-refused x k e .0))
 
   reads-of : (y : Result) → x ≡ y → wordsOf y .tag ≢ 2 → (wordsOf y .reads ≡ length (traceOf R A m .visited)) × (wordsOf y .reads ≤ 4)
   unfolding wordsOf
@@ -57,24 +62,29 @@ module _ (m : List ℕ) (g : RegimeWords) (a : AccessWords) where
         unheard = λ n n′ y h q p.
             let u = rule1 .unheard R A m n q p in
             (ap wordsOf (u .0) ∙ sym (ap (λ (t : Told AnswerWords). t .reply) h), u .1 ∙ ap (λ (t : Told AnswerWords). poolBytes (R .pool) (t .memory)) (sym h));
+        still-bytes = rule1 .bytes R A m;
         succeeds = λ c. (
-          λ t. rule2 .succeeds R A m c .0 (successIn w, succeeded t),
-          λ p. let s = rule2 .succeeds R A m c .1 p in is-success x (s .0) (s .1),
+          λ t. rule2 .succeeds R A m (accepted c) .0 (successIn w, succeeded t),
+          λ p. let s = rule2 .succeeds R A m (accepted c) .1 p in is-success x (s .0) (s .1),
         );
         faults = λ c k l p.
-            let f = rule2 .faults R A m c k l p in
+            let f = rule2 .faults R A m (accepted c) k l p in
             let i = is-fault x (f .0) (f .1) in
             (i .0, i .1 ∙ f .2, i .2 ∙ f .3, f .4);
+        placed = λ c l. rule2 .placed R A m (accepted c) l;
         leaf = λ t. rule2 .leaf R A m (successIn w) (succeeded t);
         right = λ t l. rule2 .right R A m (successIn w) (succeeded t) l;
         below = λ t. rule2 .below R A m (successIn w) (succeeded t);
         bytes = λ t b l. rule2 .marked R A m (successIn w) (succeeded t) b l .bytes;
         bits = λ t b l. rule2 .marked R A m (successIn w) (succeeded t) b l .bits;
         marks = λ t b l. (rule2 .marked R A m (successIn w) (succeeded t) b l .flag, rule2 .marked R A m (successIn w) (succeeded t) b l .dirty);
+        probe = λ t b l. rule2 .marked R A m (successIn w) (succeeded t) b l .probe;
+        accessed = λ t b l. rule2 .marked R A m (successIn w) (succeeded t) b l .accessed;
+        cacheable = λ t b l. rule2 .marked R A m (successIn w) (succeeded t) b l .cacheable;
+        fault-cacheable = λ t. rule2 .faultCacheable R A m (faultIn w) (of-fault w x refl t);
         written = λ t b k l. rule2 .written R A m (successIn w) (succeeded t) b k l;
         reads = λ t. reads-of x refl t;
       }
 
--- whatever vmsa_walk gave and left, by its own contract
-pub walk-rules : (m : List ℕ) (g : RegimeWords) (a : AccessWords) (m′ : List ℕ) (w : AnswerWords) → WalkSays m g a m′ w → WalkRules m g a m′ w
+pub walk-rules : WalkOfC
 walk-rules m g a m′ w h = subst⁻¹ (λ (t : Told AnswerWords). WalkRules m g a (t .memory) (t .reply)) h (rules m g a)

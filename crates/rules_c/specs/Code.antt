@@ -1,25 +1,39 @@
--- The C functions of a session: each call by what the function's own contract tells its caller (capi, proofs/Promises.antt), read as a call and a reply.
+-- The C functions of a session: each call by what its own contract tells (capi, specs/Says.antt), read as a call and a reply.
 use Prim.Native.Nat.{ℕ}
 use mathlib.Core.List.{List}
 use Rattle.vmsa.specs.Words.{regimeOf}
 use Rattle.vmsa.specs.declared.RegimeWords.{RegimeWords}
 use Rattle.tlb.specs.Replies.{Reply, done}
-use Rattle.session.specs.declared.Session.{Session}
-use Rattle.session.specs.Model.{Left, left, Call, setRegime, access, store, dropAll}
+use Rattle.session.specs.declared.Session.{Session as SessionStruct}
+use Rattle.session.specs.Model.{Handed, handed, Call, setRegime, access, store, dropAll}
+use Rattle.session.specs.View.{regimeHeld}
 use Rattle.words.specs.declared.AccessWords.{AccessWords}
 use Rattle.words.specs.declared.AnswerWords.{AnswerWords}
 use Rattle.words.specs.Words.{accessOf}
-use Rattle.capi.proofs.Promises.{SetSays, AccessSays, StoreSays, DropSays}
+use Rattle.capi.specs.Says.{EmptySays, SetSays, AccessSays, StoreSays, DropSays}
+use Rattle.calls.specs.Chains.{Event, Chain}
+use Rattle.calls.specs.Rule1.{Rule1Call, Rule1List}
+use Rattle.rule3.specs.Code.{Rule3From}
 use Rattle.rules_c.specs.Readings.{answerReply, numberReply}
 
-pub data MadeC : Session → List ℕ → Call → Left Session Reply → Type 0 where
-  -- vmsa_session_set_regime(&s, m, .., &g) returned n and left s′
-  set-regime : (s : Session) (m : List ℕ) (g : RegimeWords) (s′ : Session) (n : ℕ) → SetSays s m g s′ n → MadeC s m (setRegime (regimeOf g)) (left s′ m (numberReply n))
-  -- vmsa_session_access(&s, m, .., &a) returned w, and left s′ and m′
-  accessed : (s : Session) (m : List ℕ) (a : AccessWords) (s′ : Session) (m′ : List ℕ) (w : AnswerWords) → AccessSays s m a s′ m′ w
-      → MadeC s m (access (accessOf a)) (left s′ m′ (answerReply w))
-  -- vmsa_session_store(&s, m, .., address, value) returned n, and left s′ and m′
-  stored : (s : Session) (m : List ℕ) (address value : ℕ) (s′ : Session) (m′ : List ℕ) (n : ℕ) → StoreSays s m address value s′ m′ n
-      → MadeC s m (store address value) (left s′ m′ (numberReply n))
-  -- vmsa_session_invalidate_all(&s) left s′
-  dropped-all : (s s′ : Session) (m : List ℕ) → DropSays s s′ → MadeC s m dropAll (left s′ m done)
+pub data MadeC : SessionStruct → List ℕ → Call → Handed SessionStruct Reply → Type 0 where
+  set-regime : (s : SessionStruct) (m : List ℕ) (g : RegimeWords) (s′ : SessionStruct) (m′ : List ℕ) (n : ℕ) → SetSays s m g s′ m′ n
+      → MadeC s m (setRegime (regimeOf g)) (handed s′ m′ (numberReply n))
+  accessed : (s : SessionStruct) (m : List ℕ) (a : AccessWords) (s′ : SessionStruct) (m′ : List ℕ) (w : AnswerWords) → AccessSays s m a s′ m′ w
+      → MadeC s m (access (accessOf a)) (handed s′ m′ (answerReply w))
+  stored : (s : SessionStruct) (m : List ℕ) (address value : ℕ) (s′ : SessionStruct) (m′ : List ℕ) (n : ℕ) → StoreSays s m address value s′ m′ n
+      → MadeC s m (store address value) (handed s′ m′ (numberReply n))
+  dropped-all : (s s′ : SessionStruct) (m : List ℕ) → DropSays s s′ → MadeC s m dropAll (handed s′ m done)
+
+-- ---- rule 1 of these functions: any call, in any session and over any memory; and every list of calls
+
+abbrev pub Rule1OfCallC : Type 1
+Rule1OfCallC = (s : SessionStruct) (m : List ℕ) (c : Call) (x : Handed SessionStruct Reply) → MadeC s m c x → Rule1Call regimeHeld MadeC s m c x
+
+abbrev pub Rule1OfC : Type 1
+Rule1OfC = (s₀ : SessionStruct) (m₀ : List ℕ) (s : SessionStruct) (m : List ℕ) (past : List Event) → Chain MadeC s₀ m₀ s m past → Rule1List regimeHeld MadeC s₀ m₀ s m past
+
+-- ---- rule 3: every list of calls, from vmsa_session_empty()
+
+abbrev pub Rule3OfC : Type 0
+Rule3OfC = (s₀ : SessionStruct) → EmptySays s₀ → Rule3From MadeC s₀

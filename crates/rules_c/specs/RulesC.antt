@@ -8,32 +8,38 @@ use mathlib.Core.Path.{_≡_}
 use lib.ListN.{length, getD}
 use Rattle.descriptor.specs.Bytes.{Bytes, desc}
 use Rattle.descriptor.specs.Bits.{bit}
-use Rattle.geometry.specs.Geometry.{outputLimit}
+use Rattle.geometry.specs.Geometry.{levelOf, outputLimit}
 use Rattle.vmsa.specs.Words.{flag, regimeOf}
-use Rattle.vmsa.specs.Kinds.{writes}
+use Rattle.vmsa.specs.Kinds.{isProbe, writes}
 use Rattle.vmsa.specs.Fields.{af, ap2}
 use Rattle.vmsa.specs.Answers.{codeOf}
 use Rattle.vmsa.specs.declared.Regime.{Regime}
 use Rattle.vmsa.specs.declared.RegimeWords.{RegimeWords}
 use Rattle.vmsa.specs.declared.Access.{Access}
 use Rattle.vmsa.specs.declared.FaultKind.{FaultKind}
-use Rattle.checks.specs.declared.Checked.the-variants.{Accepted}
-use Rattle.checks.specs.Order.{walkRows, walkCheck}
+use Rattle.vmsa.specs.declared.FaultKind.the-variants.{Permission, Alignment}
+use Rattle.checks.specs.Order.{walkRows}
 use Rattle.walk.specs.Walk.{poolBytes}
 use Rattle.rules.specs.Rule1.{FirstNumber}
 use Rattle.rules.specs.Steps.{AllPass, FirstFails}
-use Rattle.rules.specs.Rule2.{stepsOf, traceOf, LeafOf, offset, Right, FlagUpdate, DirtyUpdate}
+use Rattle.rules.specs.Rule2.{stepsOf, traceOf, LeafOf, offset, Placed, Right, FlagUpdate, DirtyUpdate}
+use Rattle.tlb.specs.Walker.{noRegime}
 use Rattle.tlb.specs.Ours.{ours}
 use Rattle.tlb.specs.Entries.{pageFor, entryFor}
+use Rattle.session.specs.declared.Session.{Session as SessionStruct}
+use Rattle.session.specs.Model.{access}
+use Rattle.session.specs.View.{regimeHeld}
 use Rattle.words.specs.declared.AccessWords.{AccessWords}
 use Rattle.words.specs.declared.AnswerWords.{AnswerWords}
 use Rattle.words.specs.Words.{accessOf, countedWords}
-use Rattle.capi.proofs.Promises.{WalkSays}
-use Rattle.calls.specs.Chains.{Event}
-use Rattle.rule3.specs.Events.{settled, Moment, counted, anyCount, latest}
+use Rattle.capi.specs.Says.{EmptySays, WalkSays, AccessSays}
+use Rattle.calls.specs.Chains.{Event, Chain}
+use Rattle.calls.specs.Rule1.{rowsOf, InPool, Same}
+use Rattle.rule3.specs.Events.{lastRegime, settled, Moment, counted, anyCount, latest}
 use Rattle.rules_c.specs.Readings.{successIn}
+use Rattle.rules_c.specs.Code.{MadeC}
 
--- ---- rules 1 and 2 of vmsa_walk, which got the regime g, the access a and the memory m, and gave w and left m′
+-- ---- rules 1 and 2 of vmsa_walk, which got the memory m, the regime g and the access a, and gave w and left m′
 
 module _ (m : List ℕ) (g : RegimeWords) (a : AccessWords) (m′ : List ℕ) (w : AnswerWords) where
   abbrev pub R : Regime
@@ -46,28 +52,54 @@ module _ (m : List ℕ) (g : RegimeWords) (a : AccessWords) (m′ : List ℕ) (w
     -- it is refused with k exactly where the first row that applies has the number k, and then changes nothing
     pub refusals : (k : ℕ) → ((w .tag ≡ 2) × (w .refusal ≡ k)) ↔ FirstNumber (walkRows (length m) R A) k
     pub kept : w .tag ≡ 2 → m′ ≡ m
-    -- no byte outside the pool is changed, or has a say
+    -- no byte outside the pool is changed, or has a say; and bytes stay bytes
     pub long : length m′ ≡ length m
     pub outside : (i : ℕ) → (i < R .pool .start) ⊎ (R .pool .start + R .pool .length ≤ i) → getD m′ i 0 ≡ getD m i 0
     pub unheard : (n n′ : List ℕ) (x : AnswerWords) → WalkSays n g a n′ x → length m ≡ length n → poolBytes (R .pool) m ≡ poolBytes (R .pool) n
         → (w ≡ x) × (poolBytes (R .pool) m′ ≡ poolBytes (R .pool) n′)
+    pub still-bytes : Bytes m → Bytes m′
     -- one that is not refused succeeds exactly when no step fails; else it gives the fault of the first that does, and changes nothing
-    pub succeeds : walkCheck (length m) R A ≡ Accepted → (w .tag ≡ 0) ↔ AllPass (stepsOf R A m)
-    pub faults : walkCheck (length m) R A ≡ Accepted → (k : FaultKind) (l : ℕ) → FirstFails (stepsOf R A m) k l
-        → (w .tag ≡ 1) × (w .code ≡ codeOf k l) × (w .level ≡ l) × (m′ ≡ m)
+    pub succeeds : w .tag ≢ 2 → (w .tag ≡ 0) ↔ AllPass (stepsOf R A m)
+    pub faults : w .tag ≢ 2 → (k : FaultKind) (l : ℕ) → FirstFails (stepsOf R A m) k l → (w .tag ≡ 1) × (w .code ≡ codeOf k l) × (w .level ≡ l) × (m′ ≡ m)
+    -- a leaf's descriptor lies in the pool, and is what the walk read
+    pub placed : w .tag ≢ 2 → (l : LeafOf R A m) → Placed l
     -- a success has its one leaf, and gives the right address, below 2 to the output size, and attributes
     pub leaf : w .tag ≡ 0 → LeafOf R A m
     pub right : w .tag ≡ 0 → (l : LeafOf R A m) → Right l (successIn w)
     pub below : w .tag ≡ 0 → w .output < outputLimit (R .output)
-    -- it changes at most bits 10 and 7 of that leaf's descriptor, where those updates are switched on
+    -- it changes at most bits 10 and 7 of that leaf's descriptor, where those updates are switched on; a probe changes nothing
     pub bytes : w .tag ≡ 0 → Bytes m → (l : LeafOf R A m) (i : ℕ) → (i < offset l) ⊎ (offset l + 8 ≤ i) → getD m′ i 0 ≡ getD m i 0
     pub bits : w .tag ≡ 0 → Bytes m → (l : LeafOf R A m) (n : ℕ) → n ≢ 10 → n ≢ 7 → bit n (desc m′ (offset l)) ≡ bit n (l .value)
     pub marks : w .tag ≡ 0 → Bytes m → (l : LeafOf R A m)
         → FlagUpdate R A (l .value) (desc m′ (offset l)) (flag (w .accessed)) × DirtyUpdate R A (l .value) (desc m′ (offset l)) (flag (w .dirtied))
-    -- a written page ends writable with its Access flag set
+    pub probe : w .tag ≡ 0 → Bytes m → LeafOf R A m → isProbe (A .kind) ≡ true → m′ ≡ m
+    -- AF is 1 afterwards, but for a probe; a written page ends writable, too
+    pub accessed : w .tag ≡ 0 → Bytes m → (l : LeafOf R A m) → isProbe (A .kind) ≡ false → af (desc m′ (offset l)) ≡ true
     pub written : w .tag ≡ 0 → Bytes m → writes (A .kind) ≡ true → (l : LeafOf R A m) → (af (desc m′ (offset l)) ≡ true) × (ap2 (desc m′ (offset l)) ≡ false)
+    -- a success may be remembered where AF is 1 afterwards; a fault, where a leaf with AF 1 was reached and step 7 or 8 failed
+    pub cacheable : w .tag ≡ 0 → Bytes m → (l : LeafOf R A m) → flag (w .cacheable) ≡ af (desc m′ (offset l))
+    pub fault-cacheable : w .tag ≡ 1
+        → (flag (w .cacheable) ≡ true)
+        ↔ ((l : LeafOf R A m) × (af (l .value) ≡ true) × (FirstFails (stepsOf R A m) Alignment (levelOf (l .left)) ⊎ FirstFails (stepsOf R A m) Permission (levelOf (l .left))))
     -- the count of reads is the length of the list of descriptor addresses visited, and at most 4
     pub reads : w .tag ≢ 2 → (w .reads ≡ length (traceOf R A m .visited)) × (w .reads ≤ 4)
+
+abbrev pub WalkOfC : Type 0
+WalkOfC = (m : List ℕ) (g : RegimeWords) (a : AccessWords) (m′ : List ℕ) (w : AnswerWords) → WalkSays m g a m′ w → WalkRules m g a m′ w
+
+-- ---- rule 1 of vmsa_session_access, which got any session s, the memory m and the access a, and gave w and left s′ and m′
+
+module _ (s : SessionStruct) (m : List ℕ) (a : AccessWords) (s′ : SessionStruct) (m′ : List ℕ) (w : AnswerWords) where
+  pub record AccessRule1 : Type 0 where
+    pub refusals : (k : ℕ) → ((w .tag ≡ 2) × (w .refusal ≡ k)) ↔ FirstNumber (rowsOf (length m) (regimeHeld s) (access (accessOf a))) k
+    pub kept : w .tag ≡ 2 → (s′ ≡ s) × (m′ ≡ m)
+    pub long : length m′ ≡ length m
+    pub outside : (i : ℕ) → (InPool (regimeHeld s) i → ⊥) → getD m′ i 0 ≡ getD m i 0
+    pub unheard : (n : List ℕ) → Same (InPool (regimeHeld s)) m n → (t : SessionStruct) (n′ : List ℕ) (x : AnswerWords) → AccessSays s n a t n′ x
+        → (w ≡ x) × (s′ ≡ t) × Same (InPool (regimeHeld s)) m′ n′
+
+abbrev pub AccessRule1OfC : Type 0
+AccessRule1OfC = (s : SessionStruct) (m : List ℕ) (a : AccessWords) (s′ : SessionStruct) (m′ : List ℕ) (w : AnswerWords) → AccessSays s m a s′ m′ w → AccessRule1 s m a s′ m′ w
 
 -- ---- rule 3 of vmsa_session_access: after the calls past, which left the memory m, and by which the regime last accepted is g, it got
 -- the access a and the memory n, and gave w and left n′. Beside it stand calls of vmsa_walk
@@ -93,3 +125,17 @@ module _ (past : List Event) (m : List ℕ) (g : RegimeWords) (n : List ℕ) (a 
     pub held : (t : Moment) → Last anyCount ≡ some t → t .page ≡ pageFor (accessOf a) → (u : Moment) × (Last counted ≡ some u) × Recalls u
     pub other : (t : Moment) → Last anyCount ≡ some t → t .page ≢ pageFor (accessOf a) → Walks
     pub unheld : Last anyCount ≡ none → Walks
+    -- vmsa_walk of a read, fetch or probe never makes a dirty mark: for them `held` gives the one answer, and no byte changes
+    pub quiet : writes (accessOf a .kind) ≡ false → (h : RegimeWords) (k : List ℕ) (x : AnswerWords) (l : List ℕ) → WalkSays k h a l x → x .dirtied ≡ 0
+
+-- every list of calls of the C functions, from vmsa_session_empty() over a memory of any length and bytes; and an access after it: before
+-- any accepted regime it is refused with 9, and after one it keeps the rules above, over any bytes of the same length
+abbrev pub EarlyOfC : Type 0
+EarlyOfC = (s₀ : SessionStruct) → EmptySays s₀ → (m₀ : List ℕ) → Bytes m₀ → (s : SessionStruct) (m : List ℕ) (past : List Event) → Chain MadeC s₀ m₀ s m past
+    → lastRegime past ≡ none → (n : List ℕ) (a : AccessWords) (s′ : SessionStruct) (n′ : List ℕ) (w : AnswerWords) → AccessSays s n a s′ n′ w
+    → (w .tag ≡ 2) × (w .refusal ≡ noRegime) × (s′ ≡ s) × (n′ ≡ n)
+
+abbrev pub AccessOfC : Type 0
+AccessOfC = (s₀ : SessionStruct) → EmptySays s₀ → (m₀ : List ℕ) → Bytes m₀ → (s : SessionStruct) (m : List ℕ) (past : List Event) → Chain MadeC s₀ m₀ s m past
+    → (g : RegimeWords) → lastRegime past ≡ some (regimeOf g) → (n : List ℕ) → length n ≡ length m
+    → (a : AccessWords) (s′ : SessionStruct) (n′ : List ℕ) (w : AnswerWords) → AccessSays s n a s′ n′ w → AccessRules past m g n a n′ w

@@ -29,11 +29,11 @@ use Rattle.tlb.specs.declared.Entry.{Entry as EntryStruct}
 use Rattle.tlb.specs.Replies.{Reply, Told, told, replyTo, refused}
 use Rattle.tlb.specs.Walker.{andThen, noRegime, Entry, empty, entryOf, Walked, putWord, accessIn}
 use Rattle.tlb.specs.Ours.{offsetOf, ours}
-use Rattle.tlb.specs.Entries.{entryView, noEntry, regimeIn, pageFor, entryFor, EntryLeft, entryLeft, filledBy, accessedEntry, entryReply}
+use Rattle.tlb.specs.Entries.{entryView, noEntry, regimeIn, pageFor, entryFor, Filling, filling, filledBy, accessedEntry, entryReply}
 use Rattle.tlb.proofs.Walking.{first-append, put-is}
 use Rattle.tlb.proofs.Access.{keptIn, accessed-view, hit-is-access}
 use Rattle.session.specs.declared.Session.{Session as SessionStruct}
-use Rattle.session.specs.Model.{Session, Left, left, Stepped, keep, setBy, setCall, learn, accessWith, accessCall, storeBy, storeIn, Call, setRegime, access, store, dropAll, call}
+use Rattle.session.specs.Model.{Session, Handed, handed, Stepped, keep, setBy, setCall, learn, accessWith, accessCall, storeBy, storeIn, Call, setRegime, access, store, dropAll, call}
 use Rattle.session.specs.View.{sessionView, viewed, setTo, setAfter, entryIn, withEntry, accessedSession, leaves}
 use Rattle.session.proofs.Lists.{set-same, map-set}
 
@@ -44,14 +44,14 @@ unfolding regimeCheck
 set-checked s m r = ap (setBy ours s m r) (sym (first-append (memoryRows (length m) (r .pool)) (settingRows r)))
 
 module _ (s : SessionStruct) (m : List ℕ) (r : Regime) where
-  set-by : (x : Checked) → left (setAfter s r x) m (replyTo x) ≡ left (setAfter s r x) (setBy ours (sessionView s) m r x .memory) (setBy ours (sessionView s) m r x .reply)
+  set-by : (x : Checked) → handed (setAfter s r x) m (replyTo x) ≡ handed (setAfter s r x) (setBy ours (sessionView s) m r x .memory) (setBy ours (sessionView s) m r x .reply)
   set-by Accepted = refl
   set-by (Refused x) = refl
 
-  pub set-leaves : (x : Checked) → regimeCheck (length m) r ≡ x → left (setAfter s r x) m (replyTo x) ≡ leaves s m (setRegime r)
+  pub set-leaves : (x : Checked) → regimeCheck (length m) r ≡ x → handed (setAfter s r x) m (replyTo x) ≡ leaves s m (setRegime r)
   set-leaves x e =
-      subst (λ (y : Checked). left (setAfter s r y) m (replyTo y) ≡ leaves s m (setRegime r)) e
-      (set-by (regimeCheck (length m) r) ∙ ap (λ (y : Stepped). left (setAfter s r (regimeCheck (length m) r)) (y .memory) (y .reply)) (sym (set-checked (sessionView s) m r)))
+      subst (λ (y : Checked). handed (setAfter s r y) m (replyTo y) ≡ leaves s m (setRegime r)) e
+      (set-by (regimeCheck (length m) r) ∙ ap (λ (y : Stepped). handed (setAfter s r (regimeCheck (length m) r)) (y .memory) (y .reply)) (sym (set-checked (sessionView s) m r)))
 
   set-view : (x : Checked) → sessionView (setAfter s r x) ≡ setBy ours (sessionView s) m r x .session
   set-view Accepted = rw (regime-words r)
@@ -114,8 +114,8 @@ module _ (regime : RegimeWords) (set address value : ℕ) (m : List ℕ) where
       ∙ ap (λ (y : Regime). storeIn ours (some y) m address value) q ∙ ap storing (sym f)
 
 pub store-leaves : (s : SessionStruct) (m : List ℕ) (address value : ℕ) (t : Told Reply) → t ≡ storeIn ours (regimeIn (s .regime) (s .set)) m address value
-    → left s (t .memory) (t .reply) ≡ leaves s m (store address value)
-store-leaves s m address value t e = ap (λ (x : Told Reply). left s (x .memory) (x .reply)) e
+    → handed s (t .memory) (t .reply) ≡ leaves s m (store address value)
+store-leaves s m address value t e = ap (λ (x : Told Reply). handed s (x .memory) (x .reply)) e
 
 -- ---- an access, by the one entry that it can change
 
@@ -141,10 +141,10 @@ module _ (s : SessionStruct) (m : List ℕ) (a : Access) where
       ap (λ (e : Entry). learn ours (sessionView s) (pageFor a) (accessIn ours (regimeIn (s .regime) (s .set)) m a e)) (sym entry-view)
       ∙ access-learn (sessionView s) m a (regimeIn (s .regime) (s .set))
 
-  pub entry-leaves : (x : EntryLeft Reply) → x ≡ accessedEntry (s .regime) (s .set) (entryIn s a) m a → left (withEntry s (entryFor a) (x .entry)) (x .memory) (x .reply) ≡ leaves s m (access a)
+  pub entry-leaves : (x : Filling Reply) → x ≡ accessedEntry (s .regime) (s .set) (entryIn s a) m a → handed (withEntry s (entryFor a) (x .entry)) (x .memory) (x .reply) ≡ leaves s m (access a)
   entry-leaves x e =
-      ap (λ (y : EntryLeft Reply). left (withEntry s (entryFor a) (y .entry)) (y .memory) (y .reply)) e
-      ∙ ap (λ (y : Stepped). left (accessedSession s m a) (y .memory) (y .reply)) access-is
+      ap (λ (y : Filling Reply). handed (withEntry s (entryFor a) (y .entry)) (y .memory) (y .reply)) e
+      ∙ ap (λ (y : Stepped). handed (accessedSession s m a) (y .memory) (y .reply)) access-is
 
   -- an entry put where it lies already
   with-same : withEntry s (entryFor a) (entryIn s a) ≡ s
@@ -155,10 +155,10 @@ module _ (s : SessionStruct) (m : List ℕ) (a : Access) where
   unkept-same q = ap (λ (k : Option Leaf). withEntry s (entryFor a) (filledBy (entryIn s a) a (record { reply = given .reply; memory = given .memory; kept = k }) .entry)) q ∙ with-same
 
   -- a reply that the entry gives
-  pub hit-leaves : (reply : Reply) → some reply ≡ entryReply (length m) a (entryView (entryIn s a)) (regimeIn (s .regime) (s .set)) → left s m reply ≡ leaves s m (access a)
+  pub hit-leaves : (reply : Reply) → some reply ≡ entryReply (length m) a (entryView (entryIn s a)) (regimeIn (s .regime) (s .set)) → handed s m reply ≡ leaves s m (access a)
   hit-leaves reply h =
-      ap (λ (t : SessionStruct). left t m reply) (sym with-same)
-      ∙ entry-leaves (entryLeft (entryIn s a) m reply) (ap (filledBy (entryIn s a) a) (hit-is-access (regimeIn (s .regime) (s .set)) m a (entryView (entryIn s a)) reply h))
+      ap (λ (t : SessionStruct). handed t m reply) (sym with-same)
+      ∙ entry-leaves (filling (entryIn s a) m reply) (ap (filledBy (entryIn s a) a) (hit-is-access (regimeIn (s .regime) (s .set)) m a (entryView (entryIn s a)) reply h))
 
   access-view : sessionView (accessedSession s m a) ≡ accessCall ours (sessionView s) m a .session
   access-view =
@@ -177,4 +177,4 @@ session-view s m (store address value) = refl
 session-view s m dropAll = refl
 
 pub viewed-leaves : (s : SessionStruct) (m : List ℕ) (c : Call) → viewed (leaves s m c) ≡ call ours (sessionView s) m c
-viewed-leaves s m c = ap (λ (t : Session). left t (call ours (sessionView s) m c .memory) (call ours (sessionView s) m c .reply)) (session-view s m c)
+viewed-leaves s m c = ap (λ (t : Session). handed t (call ours (sessionView s) m c .memory) (call ours (sessionView s) m c .reply)) (session-view s m c)

@@ -2,7 +2,7 @@
 -- caller must show before it. Each law is by the contract's own words: a weaker contract breaks it here.
 use Prim.Native.Nat.{ℕ}
 use mathlib.Core.List.{List}
-use mathlib.Core.Path.{_≡_, ap}
+use mathlib.Core.Path.{_≡_, refl, ap}
 use contract.Lifetimes.{Lfts}
 use denote.Ref.{RefT, at-last}
 use Rattle.vmsa.specs.Answers.{view}
@@ -13,7 +13,7 @@ use Rattle.tlb.specs.Replies.{done, replyOf, replyTo}
 use Rattle.session.specs.declared.Session.{Session as SessionStruct}
 use Rattle.session.specs.declared.Changed.{Changed}
 use Rattle.session.specs.declared.Accessed.{Accessed}
-use Rattle.session.specs.Model.{left, setRegime, access, store, dropAll}
+use Rattle.session.specs.Model.{handed, setRegime, access, store, dropAll}
 use Rattle.session.specs.View.{emptySession, leaves}
 use Rattle.session.proofs.Session.empty.Reads as Empty
 use Rattle.session.proofs.Session.set_regime.Reads as SetRegime
@@ -25,21 +25,28 @@ pub empty-promise : (s : SessionStruct) → Empty.Learnt tt tt s tt → s ≡ em
 empty-promise s h = h
 
 module _ (lives : Lfts 1) (s : SessionStruct) (memory : RefT (List ℕ)) where
-  pub set-promise : (r : Regime) (x : Changed) → SetRegime.Learnt lives (s, (memory, (r, tt))) x (s, (memory, (r, tt)))
-      → left (x .session) (memory .now) (replyTo (x .reply)) ≡ leaves s (memory .now) (setRegime r)
-  set-promise r x h = h
+  pub set-promise : (r : Regime) (after : List ℕ) (x : Changed) → SetRegime.Learnt lives (s, (memory, (r, tt))) x (s, (at-last memory after, (r, tt)))
+      → handed (x .session) after (replyTo (x .reply)) ≡ leaves s (memory .now) (setRegime r)
+  set-promise r after x h = h
 
   pub access-promise : (a : Access) (after : List ℕ) (x : Accessed) → AccessOf.Learnt lives (s, (memory, (a, tt))) x (s, (at-last memory after, (a, tt)))
-      → left (x .session) after (replyOf (view (x .answer))) ≡ leaves s (memory .now) (access a)
+      → handed (x .session) after (replyOf (view (x .answer))) ≡ leaves s (memory .now) (access a)
   access-promise a after x h = h
 
   pub store-promise : (address : PhysAddr) (value : ℕ) (after : List ℕ) (x : Changed)
       → Store.Learnt lives (s, (memory, (address, (value, tt)))) x (s, (at-last memory after, (address, (value, tt))))
-      → left (x .session) after (replyTo (x .reply)) ≡ leaves s (memory .now) (store (address .0) value)
+      → handed (x .session) after (replyTo (x .reply)) ≡ leaves s (memory .now) (store (address .0) value)
   store-promise address value after x h = h
 
-pub drop-promise : (s after : SessionStruct) → InvalidateAll.Learnt tt (s, tt) after (s, tt) → (m : List ℕ) → left after m done ≡ leaves s m dropAll
-drop-promise s after h m = ap (λ (t : SessionStruct). left t m done) h
+pub drop-promise : (s after : SessionStruct) → InvalidateAll.Learnt tt (s, tt) after (s, tt) → (m : List ℕ) → handed after m done ≡ leaves s m dropAll
+drop-promise s after h m = ap (λ (t : SessionStruct). handed t m done) h
+
+-- what they return has no part that these equations leave out
+pub changed-whole : (x : Changed) → x ≡ record { session = x .session; reply = x .reply }
+changed-whole x = refl
+
+pub accessed-whole : (x : Accessed) → x ≡ record { session = x .session; answer = x .answer }
+accessed-whole x = refl
 
 -- nobody has to check first: no call asks anything of its caller
 module _ (lives : Lfts 1) (s : SessionStruct) (memory : RefT (List ℕ)) where

@@ -34,20 +34,20 @@ abbrev pub fresh : Session
 fresh = record { regime = none; entries = noEntries }
 
 -- what a call leaves: the session, in whatever form S; the memory; and what it hands back
-pub record Left (S A : Type 0) : Type 0 where
+pub record Handed (S A : Type 0) : Type 0 where
   pub session : S
   pub memory : List ℕ
   pub reply : A
 
-abbrev pub left : {S A : Type 0} → S → List ℕ → A → Left S A
-left s m reply = record { session = s; memory = m; reply = reply }
+abbrev pub handed : {S A : Type 0} → S → List ℕ → A → Handed S A
+handed s m reply = record { session = s; memory = m; reply = reply }
 
 abbrev pub Stepped : Type 0
-Stepped = Left Session Reply
+Stepped = Handed Session Reply
 
 -- a call that leaves the session as it was
 abbrev pub stay : Session → Told Reply → Stepped
-stay s t = left s (t .memory) (t .reply)
+stay s t = handed s (t .memory) (t .reply)
 
 -- a refusal carries its number alone and changes nothing
 abbrev pub refusal : List ℕ → ℕ → Told Reply
@@ -65,7 +65,7 @@ module _ (W : Walker) where
   -- ---- set regime: checks 1 to 5; accepted, it empties every entry
 
   abbrev pub setBy : Session → List ℕ → Regime → Checked → Stepped
-  setBy s m R Accepted = left (record { regime = some R; entries = noEntries }) m done
+  setBy s m R Accepted = handed (record { regime = some R; entries = noEntries }) m done
   setBy s m R (Refused x) = stay s (refusal m (numberOf x))
 
   abbrev pub setCall : Session → List ℕ → Regime → Stepped
@@ -74,7 +74,7 @@ module _ (W : Walker) where
   -- ---- access: its page's entry answers, or the walk, whose leaf is kept where it may be remembered
 
   abbrev pub learn : Session → ℕ → Walked → Stepped
-  learn s p w = left (record { regime = s .regime; entries = keep (s .entries) p (w .kept) }) (w .memory) (w .reply)
+  learn s p w = handed (record { regime = s .regime; entries = keep (s .entries) p (w .kept) }) (w .memory) (w .reply)
 
   abbrev pub accessWith : Session → List ℕ → Access → Option Regime → Stepped
   accessWith s m a none = stay s (refusal m noRegime)
@@ -99,7 +99,7 @@ module _ (W : Walker) where
   -- ---- drop all: it empties every entry, and is never refused
 
   abbrev pub dropCall : Session → List ℕ → Stepped
-  dropCall s m = left (record { regime = s .regime; entries = noEntries }) m done
+  dropCall s m = handed (record { regime = s .regime; entries = noEntries }) m done
 
   abbrev pub call : Session → List ℕ → Call → Stepped
   call s m (setRegime R) = setCall s m R

@@ -17,7 +17,7 @@ use Rattle.tlb.specs.Walker.{entryCount}
 use Rattle.tlb.specs.Ours.{ours}
 use Rattle.tlb.specs.Entries.{entryView, noEntry, regimeIn, entryFor, accessedEntry}
 use Rattle.session.specs.declared.Session.{Session as SessionStruct}
-use Rattle.session.specs.Model.{Session, Left, left, Stepped, Call, setRegime, access, store, dropAll, call}
+use Rattle.session.specs.Model.{Session, Handed, handed, Stepped, Call, setRegime, access, store, dropAll, call}
 
 abbrev pub sessionView : SessionStruct → Session
 sessionView s = record { regime = regimeIn (s .regime) (s .set); entries = map entryView (s .entries) }
@@ -27,8 +27,8 @@ abbrev pub regimeHeld : SessionStruct → Option Regime
 regimeHeld s = sessionView s .regime
 
 -- what a call left, in the model's values
-abbrev pub viewed : Left SessionStruct Reply → Stepped
-viewed x = left (sessionView (x .session)) (x .memory) (x .reply)
+abbrev pub viewed : Handed SessionStruct Reply → Stepped
+viewed x = handed (sessionView (x .session)) (x .memory) (x .reply)
 
 -- ---- the session that a call leaves, each number of it
 
@@ -65,5 +65,5 @@ sessionAfter s m (store address value) = s
 sessionAfter s m dropAll = emptied s
 
 -- what a call leaves: this session, and the memory and the reply of the model
-abbrev pub leaves : SessionStruct → List ℕ → Call → Left SessionStruct Reply
-leaves s m c = left (sessionAfter s m c) (call ours (sessionView s) m c .memory) (call ours (sessionView s) m c .reply)
+abbrev pub leaves : SessionStruct → List ℕ → Call → Handed SessionStruct Reply
+leaves s m c = handed (sessionAfter s m c) (call ours (sessionView s) m c .memory) (call ours (sessionView s) m c .reply)

@@ -4,7 +4,7 @@ ghost use Rattle.vmsa.specs.Answers.{view};
 ghost use Rattle.tlb.specs.Replies.{told, replyOf, replyTo};
 ghost use Rattle.tlb.specs.Ours.{ours};
 ghost use Rattle.tlb.specs.Entries.{regimeIn};
-ghost use Rattle.session.specs.Model.{left, setRegime, access, store, storeIn};
+ghost use Rattle.session.specs.Model.{handed, setRegime, access, store, storeIn};
 ghost use Rattle.session.specs.View.{emptySession, emptied, leaves};
 use checks::Checked;
 use tlb::ENTRIES;
@@ -77,7 +77,7 @@ impl Session {
 
     // Sets the regime and empties every entry, after checks 1 to 5.
     pub fn set_regime(self, memory: &[u8], r: Regime) -> Changed
-        ensures { λ x. ⌜ left (x .session) (now (memory .entry)) (replyTo (x .reply)) ≡ leaves self (now (memory .entry)) (setRegime r) ⌝ }
+        ensures { λ x. ⌜ handed (x .session) (now (memory .exit)) (replyTo (x .reply)) ≡ leaves self (now (memory .entry)) (setRegime r) ⌝ }
     {
         match checks::check_regime(memory.len(), r) {
             Checked::Refused(refusal) => Changed {
@@ -111,7 +111,7 @@ impl Session {
 
     // An access: refused with 9, 1, 6 or 7, or else answered.
     pub fn access(mut self, memory: &mut [u8], a: Access) -> Accessed
-        ensures { λ x. ⌜ left (x .session) (now (memory .exit)) (replyOf (view (x .answer))) ≡ leaves self (now (memory .entry)) (access a) ⌝ }
+        ensures { λ x. ⌜ handed (x .session) (now (memory .exit)) (replyOf (view (x .answer))) ≡ leaves self (now (memory .entry)) (access a) ⌝ }
     {
         let i = tlb::entry_of(a);
         let entries = self.entries;
@@ -127,7 +127,7 @@ impl Session {
 
     // Stores one descriptor at a physical address in the pool: refused with 9, 1 or 8, or else done.
     pub fn store(self, memory: &mut [u8], address: PhysAddr, value: u64) -> Changed
-        ensures { λ x. ⌜ left (x .session) (now (memory .exit)) (replyTo (x .reply)) ≡ leaves self (now (memory .entry)) (store (address .0) value) ⌝ }
+        ensures { λ x. ⌜ handed (x .session) (now (memory .exit)) (replyTo (x .reply)) ≡ leaves self (now (memory .entry)) (store (address .0) value) ⌝ }
     {
         let reply = store_in(self.regime, self.set, memory, address, value);
         Changed {

@@ -65,19 +65,19 @@ keptEntry e page none = e
 keptEntry e page (some leaf) = record { page = page; value = leaf .value; left = leaf .left; held = 1 }
 
 -- the entry, the memory, and the reply in whatever form A
-pub record EntryLeft (A : Type 0) : Type 0 where
+pub record Filling (A : Type 0) : Type 0 where
   pub entry : EntryStruct
   pub memory : List ℕ
   pub reply : A
 
-abbrev pub entryLeft : {A : Type 0} → EntryStruct → List ℕ → A → EntryLeft A
-entryLeft e m reply = record { entry = e; memory = m; reply = reply }
+abbrev pub filling : {A : Type 0} → EntryStruct → List ℕ → A → Filling A
+filling e m reply = record { entry = e; memory = m; reply = reply }
 
-abbrev pub filledBy : EntryStruct → Access → Walked → EntryLeft Reply
-filledBy e a w = entryLeft (keptEntry e (pageFor a) (w .kept)) (w .memory) (w .reply)
+abbrev pub filledBy : EntryStruct → Access → Walked → Filling Reply
+filledBy e a w = filling (keptEntry e (pageFor a) (w .kept)) (w .memory) (w .reply)
 
 -- under the regime of a session, where it is set
-abbrev pub accessedEntry : RegimeWords → ℕ → EntryStruct → List ℕ → Access → EntryLeft Reply
+abbrev pub accessedEntry : RegimeWords → ℕ → EntryStruct → List ℕ → Access → Filling Reply
 accessedEntry regime set e m a = filledBy e a (accessIn ours (regimeIn regime set) m a (entryView e))
 
 -- ---- what an entry answers by itself

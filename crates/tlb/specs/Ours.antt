@@ -32,7 +32,7 @@ spotAt r reads (leaf at v left) = found (offsetOf r at) (record { value = v; lef
 abbrev pub spotOf : Regime → Trace → Spot
 spotOf r t = spotAt r (length (t .visited)) (t .end)
 
--- a regime that rows 3 and 4 let through. No call leaves a session with another; of such a one no walk finds a table
+-- a regime that rows 3 and 4 let through. No set regime accepts another; in a session of any bytes that has one all the same, no walk finds a table
 abbrev pub usable : Regime → Bool
 usable r = not (sizesBad r || rootsBad r)
 

@@ -8,7 +8,7 @@ ghost use Rattle.walk.specs.Walk.{keptLeaf};
 ghost use Rattle.tlb.specs.Replies.{replyOf};
 ghost use Rattle.tlb.specs.Walker.{entryCount, heldIn, walked as walkedOf, accessHeld};
 ghost use Rattle.tlb.specs.Ours.{usable as usableOf, ours};
-ghost use Rattle.tlb.specs.Entries.{noEntry, entryView, regimeIn, entryFor, heldLeaf, walkedView, keptEntry, entryLeft, filledBy, accessedEntry, entryAnswer, askedReply, entryReply, hitKindIn};
+ghost use Rattle.tlb.specs.Entries.{noEntry, entryView, regimeIn, entryFor, heldLeaf, walkedView, keptEntry, filling, filledBy, accessedEntry, entryAnswer, askedReply, entryReply, hitKindIn};
 use checks::Checked;
 use decision::HitKind;
 use vmsa::Access;
@@ -188,7 +188,7 @@ pub fn entry_of(a: Access) -> usize
 // An access past its checks: its page's entry answers, or else the walk, whose leaf is kept.
 fn answer_entry(entry: Entry, memory: &mut [u8], r: Regime, a: Access) -> Filled
     requires { ⌜ (r .pool .start + r .pool .length ≤ length (now memory)) × (0 < a .size) ⌝ }
-    ensures { λ x. ⌜ entryLeft (x .entry) (now (memory .exit)) (replyOf (view (x .answer))) ≡ filledBy entry a (accessHeld ours r (now (memory .entry)) a (heldIn (entryView entry) (ours .page r a))) ⌝ }
+    ensures { λ x. ⌜ filling (x .entry) (now (memory .exit)) (replyOf (view (x .answer))) ≡ filledBy entry a (accessHeld ours r (now (memory .entry)) a (heldIn (entryView entry) (ours .page r a))) ⌝ }
 {
     match entry.ask(r, a) {
         Asked::Answered(answer) => Filled {
@@ -216,7 +216,7 @@ pub fn access_entry(
     memory: &mut [u8],
     a: Access,
 ) -> Filled
-    ensures { λ x. ⌜ entryLeft (x .entry) (now (memory .exit)) (replyOf (view (x .answer))) ≡ accessedEntry regime set entry (now (memory .entry)) a ⌝ }
+    ensures { λ x. ⌜ filling (x .entry) (now (memory .exit)) (replyOf (view (x .answer))) ≡ accessedEntry regime set entry (now (memory .entry)) a ⌝ }
 {
     if set == 0 {
         return Filled {

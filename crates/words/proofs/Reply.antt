@@ -21,9 +21,9 @@ use Rattle.checks.specs.Order.{regimeCheck}
 use Rattle.decision.specs.declared.HitKind.the-variants as hits
 use Rattle.tlb.specs.Replies.{Reply, done, refused as refusedWith, answered, Told, replyOf, replyTo}
 use Rattle.tlb.specs.Ours.{ours}
-use Rattle.tlb.specs.Entries.{entryView, regimeIn, entryFor, EntryLeft, accessedEntry, entryReply, hitKindIn, isHit}
+use Rattle.tlb.specs.Entries.{entryView, regimeIn, entryFor, Filling, accessedEntry, entryReply, hitKindIn, isHit}
 use Rattle.session.specs.declared.Session.{Session as SessionStruct}
-use Rattle.session.specs.Model.{left, setRegime, access, store, storeIn}
+use Rattle.session.specs.Model.{handed, setRegime, access, store, storeIn}
 use Rattle.session.specs.View.{setTo, setAfter, entryIn, withEntry, leaves}
 use Rattle.session.proofs.Calls.{set-leaves, hit-leaves, entry-leaves, store-leaves}
 use Rattle.words.specs.declared.AnswerWords.{AnswerWords}
@@ -56,11 +56,11 @@ set-by s r (Refused x) = rw (not-zero x)
 
 -- whatever session, over the memory's bytes: refused, it stays as it was; with 0 it is set to the regime
 pub set-numbers : (m : List ℕ) (g : RegimeWords) (x : SetWords) → x ≡ setWords (length m) (regimeOf g) → (s : SessionStruct)
-    → left (pick (eqb (x .refusal) 0) (setTo (x .regime)) s) m (x .refusal) ≡ replied refusalByte (leaves s m (setRegime (regimeOf g)))
+    → handed (pick (eqb (x .refusal) 0) (setTo (x .regime)) s) m (x .refusal) ≡ replied refusalByte (leaves s m (setRegime (regimeOf g)))
 set-numbers m g x e s =
     let r = regimeOf g in
     rw e
-    (ap (λ (t : SessionStruct). left t m (refusalByte (replyTo (regimeCheck (length m) r)))) (set-by s r (regimeCheck (length m) r))
+    (ap (λ (t : SessionStruct). handed t m (refusalByte (replyTo (regimeCheck (length m) r)))) (set-by s r (regimeCheck (length m) r))
     ∙ ap (replied refusalByte) (set-leaves s m r (regimeCheck (length m) r) refl))
 
 -- ---- a hit
@@ -84,13 +84,13 @@ hit x o w e h = rw (← h, reply-words o, e)
 
 -- a hit is the call of whatever session has the entry and the regime
 hit-by : (s : SessionStruct) (m : List ℕ) (a : Access) (x : Option Reply) → x ≡ entryReply (length m) a (entryView (entryIn s a)) (regimeIn (s .regime) (s .set)) → hitOf x .hit ≡ true
-    → left s m (hitOf x .answer) ≡ replied replyWords (leaves s m (access a))
+    → handed s m (hitOf x .answer) ≡ replied replyWords (leaves s m (access a))
 unfolding hitOf
 hit-by s m a none e h = clash (cc)
 hit-by s m a (some reply) e h = ap (replied replyWords) (hit-leaves s m a reply e)
 
 pub hit-numbers : (s : SessionStruct) (m : List ℕ) (a : Access) (h : Hit) → h ≡ hitOf (entryReply (length m) a (entryView (entryIn s a)) (regimeIn (s .regime) (s .set))) → h .hit ≡ true
-    → left s m (h .answer) ≡ replied replyWords (leaves s m (access a))
+    → handed s m (h .answer) ≡ replied replyWords (leaves s m (access a))
 hit-numbers s m a h e t =
     let x = entryReply (length m) a (entryView (entryIn s a)) (regimeIn (s .regime) (s .set)) in
     rw e (hit-by s m a x refl (ap (λ (y : Hit). y .hit) (sym e) ∙ t))
@@ -98,14 +98,14 @@ hit-numbers s m a h e t =
 -- ---- a miss, and a store
 
 -- the one entry of an access put where it lies
-pub entry-numbers : (s : SessionStruct) (m : List ℕ) (a : Access) (x : EntryLeft AnswerWords) → x ≡ entryReplied (accessedEntry (s .regime) (s .set) (entryIn s a) m a)
-    → left (withEntry s (entryFor a) (x .entry)) (x .memory) (x .reply) ≡ replied replyWords (leaves s m (access a))
+pub entry-numbers : (s : SessionStruct) (m : List ℕ) (a : Access) (x : Filling AnswerWords) → x ≡ entryReplied (accessedEntry (s .regime) (s .set) (entryIn s a) m a)
+    → handed (withEntry s (entryFor a) (x .entry)) (x .memory) (x .reply) ≡ replied replyWords (leaves s m (access a))
 entry-numbers s m a x e =
-    ap (λ (y : EntryLeft AnswerWords). left (withEntry s (entryFor a) (y .entry)) (y .memory) (y .reply)) e
+    ap (λ (y : Filling AnswerWords). handed (withEntry s (entryFor a) (y .entry)) (y .memory) (y .reply)) e
     ∙ ap (replied replyWords) (entry-leaves s m a (accessedEntry (s .regime) (s .set) (entryIn s a) m a) refl)
 
 pub store-numbers : (s : SessionStruct) (m : List ℕ) (address value : ℕ) (t : Told ℕ) → t ≡ numbered (storeIn ours (regimeIn (s .regime) (s .set)) m address value)
-    → left s (t .memory) (t .reply) ≡ replied refusalByte (leaves s m (store address value))
+    → handed s (t .memory) (t .reply) ≡ replied refusalByte (leaves s m (store address value))
 store-numbers s m address value t e =
-    ap (λ (x : Told ℕ). left s (x .memory) (x .reply)) e
+    ap (λ (x : Told ℕ). handed s (x .memory) (x .reply)) e
     ∙ ap (replied refusalByte) (store-leaves s m address value (storeIn ours (regimeIn (s .regime) (s .set)) m address value) refl)

@@ -14,9 +14,9 @@ use Rattle.vmsa.specs.declared.Regime.{Regime}
 use Rattle.checks.specs.Order.{regimeCheck}
 use Rattle.walk.specs.Walk.{walk}
 use Rattle.tlb.specs.Replies.{Reply, done, refused as refusedWith, answered, Told, told, replyTo}
-use Rattle.tlb.specs.Entries.{EntryLeft, entryLeft}
+use Rattle.tlb.specs.Entries.{Filling, filling}
 use Rattle.session.specs.declared.Session.{Session as SessionStruct}
-use Rattle.session.specs.Model.{Left, left}
+use Rattle.session.specs.Model.{Handed, handed}
 use Rattle.words.specs.declared.AccessWords.{AccessWords}
 use Rattle.words.specs.declared.AnswerWords.{AnswerWords}
 use Rattle.words.specs.declared.Hit.{Hit}
@@ -109,12 +109,12 @@ replyWords (refusedWith n) = wordsOf (refused n)
 replyWords (answered o n) = countedWords n (wordsOf o)
 
 -- what a call leaves, with its reply as numbers
-abbrev pub replied : {A : Type 0} → (Reply → A) → Left SessionStruct Reply → Left SessionStruct A
-replied numbers x = left (x .session) (x .memory) (numbers (x .reply))
+abbrev pub replied : {A : Type 0} → (Reply → A) → Handed SessionStruct Reply → Handed SessionStruct A
+replied numbers x = handed (x .session) (x .memory) (numbers (x .reply))
 
 -- what an access leaves of its page's entry, the same
-abbrev pub entryReplied : EntryLeft Reply → EntryLeft AnswerWords
-entryReplied x = entryLeft (x .entry) (x .memory) (replyWords (x .reply))
+abbrev pub entryReplied : Filling Reply → Filling AnswerWords
+entryReplied x = filling (x .entry) (x .memory) (replyWords (x .reply))
 
 -- a store's number, and the memory afterwards
 abbrev pub numbered : Told Reply → Told ℕ

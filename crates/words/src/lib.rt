@@ -6,7 +6,7 @@ ghost use Rattle.vmsa.specs.Words.{regimeOf};
 ghost use Rattle.tlb.specs.Replies.{told, replyTo};
 ghost use Rattle.tlb.specs.Walker.{entryCount};
 ghost use Rattle.tlb.specs.Ours.{ours};
-ghost use Rattle.tlb.specs.Entries.{entryView, regimeIn, entryFor, entryLeft, accessedEntry, entryReply};
+ghost use Rattle.tlb.specs.Entries.{entryView, regimeIn, entryFor, filling, accessedEntry, entryReply};
 ghost use Rattle.session.specs.Model.{storeIn};
 ghost use Rattle.words.specs.Words.{accessKind, accessOf, wordsOf, walkWords, refusalByte, entryReplied, numbered, setWords, hitOf};
 use checks::Checked;
@@ -253,7 +253,7 @@ pub fn access_entry(
     memory: &mut [u8],
     access: AccessWords,
 ) -> FilledWords
-    ensures { λ x. ⌜ entryLeft (x .entry) (now (memory .exit)) (x .answer) ≡ entryReplied (accessedEntry regime set entry (now (memory .entry)) (accessOf access)) ⌝ }
+    ensures { λ x. ⌜ filling (x .entry) (now (memory .exit)) (x .answer) ≡ entryReplied (accessedEntry regime set entry (now (memory .entry)) (accessOf access)) ⌝ }
 {
     let a = access_of(access);
     let filled = tlb::access_entry(regime, set, entry, memory, a);

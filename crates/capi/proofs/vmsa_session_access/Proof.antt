@@ -45,8 +45,8 @@ use denote.Triple.Walked.{says, Stays, stay-ref, gave-slice, stay-dropped, walkO
 use denote.Triple.Clauses.{ensured, lasts}
 use denote.Exit.{yes}
 use Rattle.tlb.specs.Walker.{entryCount}
-use Rattle.session.specs.Model.{left, access}
-use Rattle.tlb.specs.Entries.{noEntry, entryView, regimeIn, entryFor, entryLeft, accessedEntry, entryReply}
+use Rattle.session.specs.Model.{handed, access}
+use Rattle.tlb.specs.Entries.{noEntry, entryView, regimeIn, entryFor, filling, accessedEntry, entryReply}
 use Rattle.session.specs.View.{withEntry, leaves}
 use Rattle.tlb.specs.declared.Entry.{Entry}
 use Rattle.session.specs.declared.Session.{Session}
@@ -117,7 +117,7 @@ is-true false t = absurd t
 
 -- s, the bytes l and the answer w are what the access g in the session h and the memory m leaves
 abbrev Answered : Session → List ℕ → AccessWords → Session → List ℕ → AnswerWords → Type 0
-Answered h m g s l w = left s l w ≡ replied replyWords (leaves h m (access (accessOf g)))
+Answered h m g s l w = handed s l w ≡ replied replyWords (leaves h m (access (accessOf g)))
 
 -- what each callee ensures
 abbrev Number : AccessWords → ℕ → Type 0
@@ -127,7 +127,7 @@ abbrev Hits : Session → List ℕ → AccessWords → Entry → Hit → Type 0
 Hits h m g e x = x ≡ hitOf (entryReply (length m) (accessOf g) (entryView e) (regimeIn (h .regime) (h .set)))
 
 abbrev Filled : Session → List ℕ → AccessWords → Entry → FilledWords → List ℕ → Type 0
-Filled h m g e x l = entryLeft (x .entry) l (x .answer) ≡ entryReplied (accessedEntry (h .regime) (h .set) e m (accessOf g))
+Filled h m g e x l = filling (x .entry) l (x .answer) ≡ entryReplied (accessedEntry (h .regime) (h .set) e m (accessOf g))
 
 module _ {M : Type 1} (𝓤 : URA M) (H : Heap 𝓤) (A : Atoms 𝓤) (at-mem : Memory → SProp 𝓤) (run : Routine → Fun 𝓤) where
   abbrev NumberC : Contract 𝓤
@@ -315,7 +315,7 @@ module _ {M : Type 1} (𝓤 : URA M) (H : Heap 𝓤) (A : Atoms 𝓤) (W : Given
 
         filled : (i : ℕ) → i ≡ entryFor (accessOf g) → (y : FilledWords) (l : List ℕ) → Filled h m g (held i) y l → Answered h m g (withEntry h i (y .entry)) l (y .answer)
         filled i e y l p = subst (λ (k : ℕ). Answered h m g (withEntry h k (y .entry)) l (y .answer)) (sym e)
-            (entry-numbers h m (accessOf g) (entryLeft (y .entry) l (y .answer)) (subst (λ (k : ℕ). Filled h m g (held k) y l) e p))
+            (entry-numbers h m (accessOf g) (filling (y .entry) l (y .answer)) (subst (λ (k : ℕ). Filled h m g (held k) y l) e p))
 
 module _ {M : Type 1} (𝓤 : URA M) (H : Heap 𝓤) (A : Atoms 𝓤) (W : Given 𝓤 H A) (at-mem : Memory → SProp 𝓤) (run : Routine → Fun 𝓤) where
   walks : (C : Calls 𝓤 H) (Λ : Loops 𝓤 H) → FmC 𝓤 H (W .laws) C → Triple 𝓤 (C #number) (NumberC 𝓤 H A at-mem run) → Triple 𝓤 (C #hit) (HitC 𝓤 H A at-mem run) → Triple 𝓤 (C #walk) (WalkC 𝓤 H A at-mem run)

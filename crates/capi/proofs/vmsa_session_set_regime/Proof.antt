@@ -45,7 +45,7 @@ use Rattle.descriptor.specs.Bits.{pick as choose}
 use Rattle.vmsa.specs.Words.{regimeOf}
 use Rattle.vmsa.specs.declared.RegimeWords.{RegimeWords}
 use Rattle.tlb.specs.Walker.{entryCount}
-use Rattle.session.specs.Model.{left, setRegime}
+use Rattle.session.specs.Model.{handed, setRegime}
 use Rattle.tlb.specs.Entries.{noEntry}
 use Rattle.session.specs.View.{setTo, leaves}
 use Rattle.session.specs.declared.Session.{Session}
@@ -83,7 +83,7 @@ checkTy = tyStruct (shape X.the-type .name) (tcons (tyInt w8) (tcons R′.mir tn
 
 -- s and the reply n are what setting the regime g of the session h over the memory m leaves
 abbrev Set : Session → List ℕ → RegimeWords → Session → ℕ → Type 0
-Set h m g s n = left s m n ≡ replied refusalByte (leaves h m (setRegime (regimeOf g)))
+Set h m g s n = handed s m n ≡ replied refusalByte (leaves h m (setRegime (regimeOf g)))
 
 -- the two ways, by the number of the refusal
 refused : (t : Bool) (s h : Session) → T (not t) → choose t s h ≡ h

@@ -3,7 +3,7 @@ use mathlib.Core.Path.{_≡_, sym, ap, _∙_}
 use Rattle.walk.specs.Walk.{keptLeaf}
 use Rattle.tlb.specs.Walker.{heldIn, Walked}
 use Rattle.tlb.specs.Ours.{ours}
-use Rattle.tlb.specs.Entries.{entryView, askedReply, keptEntry, entryLeft, filledBy, pageFor}
+use Rattle.tlb.specs.Entries.{entryView, askedReply, keptEntry, filling, filledBy, pageFor}
 use Rattle.tlb.proofs.Entries.{hit-gives, walk-gives}
 use Rattle.tlb.proofs.answer_entry.Statement.{statement}
 use Rattle.tlb.proofs.answer_entry.Tie as tie
