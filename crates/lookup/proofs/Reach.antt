@@ -4,7 +4,7 @@ use mathlib.Core.Bool.{Bool, true, false, _&&_, _||_}
 use mathlib.Core.List.{List, _∷_}
 use mathlib.Core.Path.{_≡_, refl, subst}
 use native.Mathlib.Omega.{arith}
-use lib.Dec.{leb}
+use lib.Dec.{leb, lit≤}
 use lib.ListN.{length}
 use borrow.Author.Tests.{leb-true}
 use Rattle.descriptor.specs.Bytes.{desc}
@@ -170,6 +170,17 @@ locate-good r read a z e =
     pick-both good (range .disabled || outside (range .tsz) a) (ended (fault Translation 0)) (pick beyond (ended (fault AddressSize 0)) deep) tt
     (pick-both good beyond (ended (fault AddressSize 0)) deep tt
     (descend-good c read (context-paged r a) (suc (firstLeft pageBits (range .tsz))) (range .root .0) (suc-le-suc (first-le pageBits (range .tsz) paged (range-least r a z))) e))
+
+pub locate-backed : (r : Regime) (pool : List ℕ) (base a : ℕ) → Sized r → Backed pool base (locate r (fetched pool base) a .end)
+unfolding locate
+locate-backed r pool base a z =
+    let range = rangeOf r a in
+    let deep = descend (contextOf r a) (fetched pool base) (suc (firstLeft pageBits (range .tsz))) (range .root .0) in
+    let backed : Trace → Type 0 = λ t. Backed pool base (t .end) in
+    let beyond = leb (outputLimit (r .output)) (range .root .0) in
+    pick-both backed (range .disabled || outside (range .tsz) a) (ended (fault Translation 0)) (pick beyond (ended (fault AddressSize 0)) deep) (lit≤ tt)
+    (pick-both backed beyond (ended (fault AddressSize 0)) deep (lit≤ tt)
+    (descend-backed (contextOf r a) pool base (suc (firstLeft pageBits (range .tsz))) (range .root .0) (suc-le-suc (first-le pageBits (range .tsz) paged (range-least r a z)))))
 
 -- ---- the reader over a pool
 

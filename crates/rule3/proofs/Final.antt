@@ -22,14 +22,14 @@ use Rattle.tlb.specs.Walker.{andThen, Walked, walked}
 use Rattle.tlb.specs.Ours.{offsetOf, ours}
 use Rattle.tlb.proofs.Walking.{first-append, walked-pool}
 use Rattle.session.specs.declared.Session.{Session as SessionStruct}
-use Rattle.session.specs.Model.{Session, Handed, Stepped, fresh, Call, setRegime, access, store, dropAll}
+use Rattle.session.specs.Model.{Session, Handed, Stepped, fresh, Call, setRegime, access, store, dropAll, call}
 use Rattle.session.specs.View.{sessionView, viewed}
 use Rattle.session.proofs.Calls.{store-accepted, viewed-leaves}
 use Rattle.session.proofs.Promises.{empty-promise}
-use Rattle.calls.specs.Chains.{Event, event, Functions, Leaving, Chain, none-yet, more, isDone}
+use Rattle.calls.specs.Chains.{Event, event, Functions, Calling, Leaving, Chain, none-yet, more, isDone}
 use Rattle.calls.specs.Code.{Begun, Made}
 use Rattle.calls.proofs.Lists.{made-leaves}
-use Rattle.rule3.specs.Events.{lastRegime, empties, asksDrop, settled, isDrop, dropped}
+use Rattle.rule3.specs.Events.{World, next, run, lastRegime, empties, asksDrop, settled, isDrop, dropped}
 use Rattle.rule3.specs.Rule3.{plainly, Remembers, Rule3}
 use Rattle.rule3.specs.Lawful.{unlessRefused, Lawful}
 use Rattle.rule3.specs.Code.{Rule3OfModel, worldAt, Rule3From, NextFrom, Rule3OfCode, NextOfCode}
@@ -106,6 +106,13 @@ lawful =
 -- rule 3: for every list of calls, from the fresh session over a memory of any length and bytes
 pub rule-3 : Rule3OfModel
 rule-3 = rule3 ours lawful
+
+-- the list is a chain of the model's calls, of which rule 1 speaks
+pub run-chain : (s₀ : Session) (m₀ : List ℕ) (w : World) → Chain Calling s₀ m₀ (w .session) (w .memory) (w .past) → (cs : List Call)
+    → Chain Calling s₀ m₀ (run ours w cs .session) (run ours w cs .memory) (run ours w cs .past)
+unfolding run
+run-chain s₀ m₀ w chain [] = chain
+run-chain s₀ m₀ w chain (c ∷ cs) = run-chain s₀ m₀ (next ours w c) (more {x = call ours (w .session) (w .memory) c} chain refl) cs
 
 -- ---- functions over a session of the code, from a fresh session, that leave what `leaves` says
 

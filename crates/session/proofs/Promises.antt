@@ -2,19 +2,25 @@
 -- caller must show before it. Each law is by the contract's own words: a weaker contract breaks it here.
 use Prim.Native.Nat.{ℕ}
 use mathlib.Core.List.{List}
-use mathlib.Core.Path.{_≡_, refl, ap}
+use mathlib.Core.Path.{_≡_, refl, sym, ap, subst⁻¹, _∙_}
 use contract.Lifetimes.{Lfts}
 use denote.Ref.{RefT, at-last}
-use Rattle.vmsa.specs.Answers.{view}
+use Rattle.descriptor.proofs.Tests.{clash}
+use Rattle.vmsa.specs.Answers.{numberOf, view}
 use Rattle.vmsa.specs.declared.Regime.{Regime}
 use Rattle.vmsa.specs.declared.Access.{Access}
 use Rattle.vmsa.specs.declared.PhysAddr.{PhysAddr}
-use Rattle.tlb.specs.Replies.{done, replyOf, replyTo}
+use Rattle.vmsa.proofs.Answers.{number-settles}
+use Rattle.checks.specs.declared.Checked.{Checked}
+use Rattle.checks.specs.declared.Checked.the-variants.{Accepted, Refused}
+use Rattle.tlb.specs.Replies.{Reply, done, replyOf, replyTo}
+use Rattle.tlb.proofs.Access.{LowReply, reply-settles}
 use Rattle.session.specs.declared.Session.{Session as SessionStruct}
 use Rattle.session.specs.declared.Changed.{Changed}
 use Rattle.session.specs.declared.Accessed.{Accessed}
-use Rattle.session.specs.Model.{handed, setRegime, access, store, dropAll}
+use Rattle.session.specs.Model.{Handed, handed, setRegime, access, store, dropAll}
 use Rattle.session.specs.View.{emptySession, leaves}
+use Rattle.session.proofs.Calls.{access-low}
 use Rattle.session.proofs.Session.empty.Reads as Empty
 use Rattle.session.proofs.Session.set_regime.Reads as SetRegime
 use Rattle.session.proofs.Session.access.Reads as AccessOf
@@ -41,12 +47,39 @@ module _ (lives : Lfts 1) (s : SessionStruct) (memory : RefT (List ℕ)) where
 pub drop-promise : (s after : SessionStruct) → InvalidateAll.Learnt tt (s, tt) after (s, tt) → (m : List ℕ) → handed after m done ≡ leaves s m dropAll
 drop-promise s after h m = ap (λ (t : SessionStruct). handed t m done) h
 
--- what they return has no part that these equations leave out
-pub changed-whole : (x : Changed) → x ≡ record { session = x .session; reply = x .reply }
-changed-whole x = refl
+-- ---- and that is one result, each part of it: no two results meet a contract
 
-pub accessed-whole : (x : Accessed) → x ≡ record { session = x .session; answer = x .answer }
-accessed-whole x = refl
+reply-one : (x y : Checked) → replyTo x ≡ replyTo y → x ≡ y
+reply-one Accepted Accepted e = refl
+reply-one Accepted (Refused y) e = clash (cc)
+reply-one (Refused x) Accepted e = clash (cc)
+reply-one (Refused x) (Refused y) e = let z : numberOf x ≡ numberOf y = cc in ap Refused (number-settles x y z)
+
+changed-one : (m n : List ℕ) (x y : Changed) → handed (x .session) m (replyTo (x .reply)) ≡ handed (y .session) n (replyTo (y .reply)) → (x ≡ y) × (m ≡ n)
+changed-one m n x y e =
+    let r = reply-one (x .reply) (y .reply) (ap (λ (t : Handed SessionStruct Reply). t .reply) e) in
+    let z : x ≡ y = λ i. record { session = e i .session; reply = r i } in
+    (z, ap (λ (t : Handed SessionStruct Reply). t .memory) e)
+
+module _ (lives : Lfts 1) (s : SessionStruct) (memory : RefT (List ℕ)) where
+  pub set-one : (r : Regime) (m n : List ℕ) (x y : Changed) → SetRegime.Learnt lives (s, (memory, (r, tt))) x (s, (at-last memory m, (r, tt)))
+      → SetRegime.Learnt lives (s, (memory, (r, tt))) y (s, (at-last memory n, (r, tt))) → (x ≡ y) × (m ≡ n)
+  set-one r m n x y h k = changed-one m n x y (set-promise lives s memory r m x h ∙ sym (set-promise lives s memory r n y k))
+
+  pub access-one : (a : Access) (m n : List ℕ) (x y : Accessed) → AccessOf.Learnt lives (s, (memory, (a, tt))) x (s, (at-last memory m, (a, tt)))
+      → AccessOf.Learnt lives (s, (memory, (a, tt))) y (s, (at-last memory n, (a, tt))) → (x ≡ y) × (m ≡ n)
+  access-one a m n x y h k =
+      let p = access-promise lives s memory a m x h in
+      let e = p ∙ sym (access-promise lives s memory a n y k) in
+      let low : LowReply (replyOf (view (x .answer))) = subst⁻¹ LowReply (ap (λ (t : Handed SessionStruct Reply). t .reply) p) (access-low s (memory .now) a) in
+      let r = reply-settles (x .answer) (y .answer) low (ap (λ (t : Handed SessionStruct Reply). t .reply) e) in
+      let z : x ≡ y = λ i. record { session = e i .session; answer = r i } in
+      (z, ap (λ (t : Handed SessionStruct Reply). t .memory) e)
+
+  pub store-one : (address : PhysAddr) (value : ℕ) (m n : List ℕ) (x y : Changed)
+      → Store.Learnt lives (s, (memory, (address, (value, tt)))) x (s, (at-last memory m, (address, (value, tt))))
+      → Store.Learnt lives (s, (memory, (address, (value, tt)))) y (s, (at-last memory n, (address, (value, tt)))) → (x ≡ y) × (m ≡ n)
+  store-one address value m n x y h k = changed-one m n x y (store-promise lives s memory address value m x h ∙ sym (store-promise lives s memory address value n y k))
 
 -- nobody has to check first: no call asks anything of its caller
 module _ (lives : Lfts 1) (s : SessionStruct) (memory : RefT (List ℕ)) where

@@ -8,13 +8,15 @@ use lib.ListN.{length, take, drop}
 use Rattle.descriptor.specs.Bits.{pick}
 use Rattle.descriptor.proofs.Tests.{clash}
 use Rattle.vmsa.specs.Words.{flag, regimeOf}
-use Rattle.vmsa.specs.Answers.{Result, view, cacheableIn, codeOf, numberOf, dirtiedIn}
+use Rattle.vmsa.specs.Answers.{Result, success, fault, refused as refusedWith, view, cacheableIn, codeOf, numberOf, dirtiedIn}
 use Rattle.vmsa.specs.declared.Regime.{Regime}
 use Rattle.vmsa.specs.declared.RegimeWords.{RegimeWords}
 use Rattle.vmsa.specs.declared.Pool.{Pool}
 use Rattle.vmsa.specs.declared.Access.{Access}
 use Rattle.vmsa.specs.declared.Leaf.{Leaf}
 use Rattle.vmsa.specs.declared.FaultKind.the-variants.{Translation}
+use Rattle.vmsa.specs.declared.Answer.{Answer}
+use Rattle.vmsa.proofs.Answers.{LowIn, view-settles}
 use Rattle.checks.specs.declared.Checked.{Checked}
 use Rattle.checks.specs.declared.Checked.the-variants.{Accepted, Refused}
 use Rattle.checks.specs.Order.{memoryRows, accessRows, sessionAccessCheck}
@@ -22,13 +24,14 @@ use Rattle.checks.proofs.Accept.{clear, pooled, shaped}
 use Rattle.walk.specs.declared.Walked.{Walked as WalkedStruct}
 use Rattle.walk.specs.Walk.{Outcome, outcome, walkPool, keptPool, keptLeaf}
 use Rattle.walk.proofs.Parts.{put-back}
+use Rattle.walk.proofs.Settled.{low-decision}
 use Rattle.tlb.specs.declared.Entry.{Entry as EntryStruct}
-use Rattle.tlb.specs.Replies.{Reply, answered}
+use Rattle.tlb.specs.Replies.{Reply, done, refused, answered, replyOf}
 use Rattle.tlb.specs.Walker.{Spot, lost, found as foundAt, andThen, noRegime, Entry, holds, heldIn, revalued, Walked, declined, walkFrom, walked, accessHeld, accessBy, accessUnder, accessIn}
 use Rattle.tlb.specs.Ours.{usable, located, judged, stamped, ours}
 use Rattle.tlb.specs.Entries.{entryView, pageFor, keptEntry, entryAnswer, checkedReply, entryReply, hitKindIn, isHit, regimeIn, walkedView}
 use Rattle.tlb.proofs.Entries.{hitWith, hit-gives, kept-view}
-use Rattle.tlb.proofs.Found.{where-found, in-the-pool}
+use Rattle.tlb.proofs.Found.{where-found, in-the-pool, low-lost}
 use Rattle.tlb.proofs.Walking.{first-append, usable-sized, usable-root, walked-pool}
 
 -- ---- the checks
@@ -120,6 +123,76 @@ kept-by e page (some leaf) h = kept-view page leaf h
 pub accessed-view : (g : Option Regime) (m : List ℕ) (a : Access) (e : EntryStruct)
     → entryView (keptEntry e (pageFor a) (accessIn ours g m a (entryView e) .kept)) ≡ keptIn (entryView e) (pageFor a) (accessIn ours g m a (entryView e) .kept)
 accessed-view g m a e = kept-by e (pageFor a) (accessIn ours g m a (entryView e) .kept) (low-in g m a (entryView e))
+
+-- ---- an answer with its count put back
+
+countedWith : Result → ℕ → Result
+countedWith (success s) n =
+    success (record {
+      output = s .output;
+      attribute = s .attribute;
+      shareability = s .shareability;
+      nonglobal = s .nonglobal;
+      level = s .level;
+      accessed = s .accessed;
+      dirtied = s .dirtied;
+      cacheable = s .cacheable;
+      reads = n;
+    })
+countedWith (fault f) n = fault (record { code = f .code; level = f .level; cacheable = f .cacheable; reads = n })
+countedWith (refusedWith k) n = refusedWith k
+
+counted : Reply → Result
+counted done = refusedWith 0
+counted (refused n) = refusedWith n
+counted (answered o n) = countedWith o n
+
+recounted : (o : Result) → counted (replyOf o) ≡ o
+unfolding counted countedWith
+recounted (success s) = refl
+recounted (fault f) = refl
+recounted (refusedWith n) = refl
+
+-- ---- an access's reply is settled by its values, since a fault stands at one of the four levels
+
+abbrev pub LowReply : Reply → Type 0
+LowReply done = Unit {0}
+LowReply (refused n) = Unit {0}
+LowReply (answered o n) = LowIn o
+
+reply-walk : (r : Regime) (m : List ℕ) (a : Access) (x : Spot) → located r m (ours .page r a) ≡ x → LowReply (walkFrom ours r m a x .reply)
+unfolding judged
+reply-walk r m a (lost code level n) q = low-lost r m (ours .page r a) code level n q
+reply-walk r m a (foundAt at u n) q = low-decision r a u 0
+
+reply-held : (r : Regime) (m : List ℕ) (a : Access) (h : Option Leaf) → LowReply (accessHeld ours r m a h .reply)
+unfolding judged
+reply-held r m a none = reply-walk r m a (located r m (ours .page r a)) refl
+reply-held r m a (some h) = by (dirtiedIn (judged r h a))
+  where
+    by : (b : Bool) → LowReply (pick b (walked ours r m a) (hitWith r m a (answered (judged r h a) 0)) .reply)
+    by true = reply-walk r m a (located r m (ours .page r a)) refl
+    by false = low-decision r a h 0
+
+reply-by : (r : Regime) (m : List ℕ) (a : Access) (h : Option Leaf) (x : Checked) → LowReply (accessBy ours r m a h x .reply)
+reply-by r m a h Accepted = reply-held r m a h
+reply-by r m a h (Refused x) = tt
+
+pub low-reply : (g : Option Regime) (m : List ℕ) (a : Access) (e : Entry) → LowReply (accessIn ours g m a e .reply)
+low-reply none m a e = tt
+low-reply (some r) m a e = reply-by r m a (heldIn e (ours .page r a)) (andThen (ours .memoryCheck r (length m)) (ours .accessCheck a))
+
+-- the reply of an answer, and so the answer
+low-of : (o : Result) → LowReply (replyOf o) → LowIn o
+low-of (success s) h = tt
+low-of (fault f) h = h
+low-of (refusedWith n) h = tt
+
+result-of : (o p : Result) → replyOf o ≡ replyOf p → o ≡ p
+result-of o p e = sym (recounted o) ∙ ap counted e ∙ recounted p
+
+pub reply-settles : (x y : Answer) → LowReply (replyOf (view x)) → replyOf (view x) ≡ replyOf (view y) → x ≡ y
+reply-settles x y h e = view-settles x y (low-of (view x) h) (result-of (view x) (view y) e)
 
 -- ---- a hit
 

@@ -1,8 +1,9 @@
 -- Where a lookup of a page finds its leaf.
-use Prim.Native.Nat.{ℕ, _*_}
+use Prim.Native.Nat.{ℕ, _*_, _≤_}
 use mathlib.Core.Bool.{Bool, true, false}
 use mathlib.Core.List.{List}
-use mathlib.Core.Path.{_≡_, refl, ap}
+use mathlib.Core.Path.{_≡_, refl, ap, subst}
+use lib.Dec.{lit≤}
 use lib.ListN.{length}
 use Rattle.descriptor.specs.Bits.{pick}
 use Rattle.descriptor.proofs.Tests.{clash}
@@ -10,11 +11,13 @@ use Rattle.vmsa.specs.Limits.{pageBits}
 use Rattle.vmsa.specs.Answers.{codeOf}
 use Rattle.vmsa.specs.declared.Regime.{Regime}
 use Rattle.vmsa.specs.declared.Leaf.{Leaf}
+use Rattle.vmsa.specs.declared.FaultKind.{FaultKind}
 use Rattle.vmsa.specs.declared.FaultKind.the-variants.{Translation}
 use Rattle.geometry.specs.Geometry.{pageSize}
 use Rattle.lookup.specs.Trace.{End, fault, leaf}
 use Rattle.walk.specs.Walk.{poolBytes, traced}
 use Rattle.walk.proofs.Ends.{Found, found}
+use Rattle.walk.proofs.Settled.{low-fault}
 use Rattle.tlb.specs.Walker.{lost, found as foundAt}
 use Rattle.tlb.specs.Ours.{usable, offsetOf, spotAt, spotOf, located}
 use Rattle.tlb.proofs.Walking.{usable-sized, usable-root}
@@ -50,3 +53,19 @@ pub in-the-pool : (r : Regime) (m : List ℕ) (p : ℕ) {at : ℕ} {u : Leaf} {n
     → Found r (poolBytes (r .pool) m) (p * pageSize pageBits) (w .address) (u .value) (u .left)
 in-the-pool r m p {u = u} w =
     found r (poolBytes (r .pool) m) (p * pageSize pageBits) (w .address) (u .value) (u .left) (usable-sized r (w .regime)) (usable-root r (p * pageSize pageBits) (w .regime)) (w .end)
+
+-- a lookup that ends in a fault ends at one of the four levels
+spot-lost : (r : Regime) (k : ℕ) (e : End) (code level n : ℕ) → spotAt r k e ≡ lost code level n → (kind : FaultKind) × (e ≡ fault kind level)
+spot-lost r k (fault kind l) code level n q = let z : l ≡ level = cc in (kind, ap (fault kind) z)
+spot-lost r k (leaf a v left) code level n q = clash (cc)
+
+pub low-lost : (r : Regime) (m : List ℕ) (p code level n : ℕ) → located r m p ≡ lost code level n → level ≤ 3
+unfolding located
+low-lost r m p code level n q = by (usable r) refl q
+  where
+    by : (b : Bool) → usable r ≡ b → pick b (spotOf r (traced r (poolBytes (r .pool) m) (p * pageSize pageBits))) (lost (codeOf Translation 0) 0 0) ≡ lost code level n → level ≤ 3
+    by true e q =
+        let t = traced r (poolBytes (r .pool) m) (p * pageSize pageBits) in
+        let s = spot-lost r (length (t .visited)) (t .end) code level n q in
+        low-fault r (poolBytes (r .pool) m) (p * pageSize pageBits) (usable-sized r e) (s .0) level (s .1)
+    by false e q = let z : _≡_ {A = ℕ} 0 level = cc in subst (λ (x : ℕ). x ≤ 3) z (lit≤ tt)
