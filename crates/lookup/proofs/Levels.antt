@@ -36,16 +36,16 @@ more : (n k : ℕ) → n + suc k ≡ n + 1 + k
 more n k = omega arith
 
 module _ (c : Context) (below : ℕ → Trace) (left a v n : ℕ) where
-  pub fault-packed : (kind : FaultKind) → decoded (c .page) (c .limit) left v ≡ next.Fault kind
+  pub fault-packed : (kind : FaultKind) → decoded (c .page) (c .limit .0) left v ≡ next.Fault kind
       → packed n (followed c below left a v) ≡ joined n (levelOf left) (kindNumber kind) 0
   unfolding packed followed
   fault-packed kind e = rw (e, add-zero n)
 
-  pub table-packed : (table : PhysAddr) → decoded (c .page) (c .limit) left v ≡ next.Table table → packed n (followed c below left a v) ≡ packed n (below (table .0))
+  pub table-packed : (table : PhysAddr) → decoded (c .page) (c .limit .0) left v ≡ next.Table table → packed n (followed c below left a v) ≡ packed n (below (table .0))
   unfolding followed
   table-packed table e = rw e
 
-  pub leaf-packed : decoded (c .page) (c .limit) left v ≡ next.Leaf → packed n (followed c below left a v) ≡ joined n (levelOf left) leafNumber a
+  pub leaf-packed : decoded (c .page) (c .limit .0) left v ≡ next.Leaf → packed n (followed c below left a v) ≡ joined n (levelOf left) leafNumber a
   unfolding packed followed
   leaf-packed e = rw (e, add-zero n)
 
@@ -76,7 +76,7 @@ module _ (r : Regime) (read : ℕ → Word) (a : ℕ) (range : Range) (e : range
 
   pub locate-go : (range .disabled || outside (range .tsz) a) ≡ false → (limit power left : ℕ) → limit ≡ outputLimit (r .output) → range .root .0 < limit
       → power ≡ 2 ^ (64 - range .tsz) → left ≡ firstLeft pageBits (range .tsz)
-      → (c : Context) → c ≡ context (r .pool .address .0) limit (a % power) pageBits
+      → (c : Context) → c ≡ context (r .pool .address) (record { 0 = limit }) (record { 0 = a % power }) pageBits
       → locate r read a ≡ descend c read (suc left) (range .root .0)
   unfolding locate contextOf
   locate-go h limit power left el q ep ef c ec =

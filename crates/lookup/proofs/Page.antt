@@ -32,9 +32,9 @@ mod-page a b n h e =
 
 -- ---- any number of levels
 
-module _ (base : PhysAddr) (limit p : ℕ) (least : 12 ≤ p) where
+module _ (base limit : PhysAddr) (p : ℕ) (least : 12 ≤ p) where
   abbrev with-input : ℕ → Context
-  with-input i = record { base = base; limit = limit; input = i; page = p }
+  with-input i = record { base = base; limit = limit; input = record { 0 = i }; page = p }
 
   entry-page : (i j left t : ℕ) → i / 4096 ≡ j / 4096 → entryAt (with-input i) left t ≡ entryAt (with-input j) left t
   unfolding entryAt span shiftOf
@@ -67,13 +67,13 @@ module _ (r : Regime) (a b : ℕ) (e : a / 4096 ≡ b / 4096) where
 
   descent : Range → (ℕ → Word) → ℕ → Trace
   descent range read x =
-      descend (record { base = r .pool .address; limit = outputLimit (r .output); input = x % 2 ^ (64 - range .tsz); page = pageBits }) read (suc (firstLeft pageBits (range .tsz)))
+      descend (record { base = r .pool .address; limit = record { 0 = outputLimit (r .output) }; input = record { 0 = x % 2 ^ (64 - range .tsz) }; page = pageBits }) read (suc (firstLeft pageBits (range .tsz)))
       (range .root .0)
 
   descent-page : (range : Range) (read : ℕ → Word) → range .tsz ≤ tszMost → descent range read a ≡ descent range read b
   unfolding descent
   descent-page range read h =
-      descend-page (r .pool .address) (outputLimit (r .output)) pageBits (omega arith) read (a % 2 ^ (64 - range .tsz)) (b % 2 ^ (64 - range .tsz))
+      descend-page (r .pool .address) (record { 0 = outputLimit (r .output) }) pageBits (omega arith) read (a % 2 ^ (64 - range .tsz)) (b % 2 ^ (64 - range .tsz))
       (mod-page a b (64 - range .tsz) (omega arith) e) (suc (firstLeft pageBits (range .tsz))) (range .root .0)
 
   opened : (read : ℕ → Word) (x : ℕ) (range : Range) → rangeOf r x ≡ range

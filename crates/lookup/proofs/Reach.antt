@@ -44,7 +44,7 @@ descend-visited c read zero t = zero-le
 descend-visited c read (suc n) t =
     suc-le-suc
     (visited-word n (ended (fault ExternalAbort (levelOf n))) (followed c (descend c read n) n (entryAt c n t)) zero-le
-    (λ v. visited-onward n (descend c read n) n (entryAt c n t) v (descend-visited c read n) (decoded (c .page) (c .limit) n v)) (read (entryAt c n t)))
+    (λ v. visited-onward n (descend c read n) n (entryAt c n t) v (descend-visited c read n) (decoded (c .page) (c .limit .0) n v)) (read (entryAt c n t)))
 
 range-least : (r : Regime) (a : ℕ) → Sized r → tszLeast ≤ rangeOf r a .tsz
 unfolding rangeOf
@@ -107,7 +107,7 @@ locate-read r read a {at} {v} {left} q = subst (ReadOnce (locate r read a)) q (o
 -- it was read at that address, says that it is a leaf there, and lies at a multiple of 8
 pub record Reached (c : Context) (read : ℕ → Word) (a v left : ℕ) : Type 0 where
   pub value : read a ≡ Value v
-  pub leads : decoded (c .page) (c .limit) left v ≡ next.Leaf
+  pub leads : decoded (c .page) (c .limit .0) left v ≡ next.Leaf
   pub low : left ≤ 3
   pub aligned : a % 8 ≡ 0
 
@@ -122,10 +122,10 @@ entry-aligned c left t e = omega arith
 -- what holds of every end, where T holds of every table's address
 module _ (c : Context) (read : ℕ → Word) (T : ℕ → Type 0) (E : End → Type 0)
     (at-fault : (kind : FaultKind) (left : ℕ) → left ≤ 3 → E (fault kind (levelOf left)))
-    (at-table : (left v : ℕ) (table : PhysAddr) → decoded (c .page) (c .limit) left v ≡ next.Table table → T (table .0))
-    (at-leaf : (left t v : ℕ) → left ≤ 3 → T t → read (entryAt c left t) ≡ Value v → decoded (c .page) (c .limit) left v ≡ next.Leaf → E (leaf (entryAt c left t) v left)) where
+    (at-table : (left v : ℕ) (table : PhysAddr) → decoded (c .page) (c .limit .0) left v ≡ next.Table table → T (table .0))
+    (at-leaf : (left t v : ℕ) → left ≤ 3 → T t → read (entryAt c left t) ≡ Value v → decoded (c .page) (c .limit .0) left v ≡ next.Leaf → E (leaf (entryAt c left t) v left)) where
   onward-end : (below : ℕ → Trace) (left t v : ℕ) → left ≤ 3 → T t → read (entryAt c left t) ≡ Value v → ((u : ℕ) → T u → E (below u .end))
-      → (x : Next) → decoded (c .page) (c .limit) left v ≡ x → E (onward below left (entryAt c left t) v x .end)
+      → (x : Next) → decoded (c .page) (c .limit .0) left v ≡ x → E (onward below left (entryAt c left t) v x .end)
   onward-end below left t v h e q k (next.Fault kind) d = at-fault kind left h
   onward-end below left t v h e q k (next.Table table) d = k (table .0) (at-table left v table d)
   onward-end below left t v h e q k next.Leaf d = at-leaf left t v h e q d
@@ -140,13 +140,13 @@ module _ (c : Context) (read : ℕ → Word) (T : ℕ → Type 0) (E : End → T
   descend-end (suc n) t h e =
       let a = entryAt c n t in
       word-end (ended (fault ExternalAbort (levelOf n))) (followed c (descend c read n) n a) a (at-fault ExternalAbort n (omega arith))
-      (λ v q. onward-end (descend c read n) n t v (omega arith) e q (λ u f. descend-end n u (omega arith) f) (decoded (c .page) (c .limit) n v) refl)
+      (λ v q. onward-end (descend c read n) n t v (omega arith) e q (λ u f. descend-end n u (omega arith) f) (decoded (c .page) (c .limit .0) n v) refl)
       (read a) refl
 
 pub descend-good : (c : Context) (read : ℕ → Word) (g : Paged (c .page)) (n t : ℕ) → n ≤ 4 → t % 8 ≡ 0 → Good c read (descend c read n t .end)
 descend-good c read g =
     descend-end c read (λ t. t % 8 ≡ 0) (Good c read) (λ kind left h. tt)
-    (λ left v table d. aligned8 (c .page) (table .0) g (is-table (c .page) (c .limit) left v table d .aligned))
+    (λ left v table d. aligned8 (c .page) (table .0) g (is-table (c .page) (c .limit .0) left v table d .aligned))
     (λ left t v h e q d. record { value = q; leads = d; low = h; aligned = entry-aligned c left t e })
 
 -- a level is one of the four, and a leaf's value stands in the pool

@@ -36,12 +36,12 @@ pub record AlikeTraces (R : ℕ → ℕ → Type 0) (t u : Trace) : Type 0 where
   pub ends : AlikeEnds R (t .end) (u .end)
 
 module _ (R : ℕ → ℕ → Type 0) (c : Context) (g : Paged (c .page))
-    (unseen : (left v w : ℕ) → R v w → decoded (c .page) (c .limit) left w ≡ decoded (c .page) (c .limit) left v)
+    (unseen : (left v w : ℕ) → R v w → decoded (c .page) (c .limit .0) left w ≡ decoded (c .page) (c .limit .0) left v)
     (read read2 : ℕ → Word) (alike : (a : ℕ) → a % 8 ≡ 0 → AlikeWords R (read a) (read2 a)) where
   onward-alike : (below below2 : ℕ → Trace) → ((t : ℕ) → t % 8 ≡ 0 → AlikeTraces R (below t) (below2 t)) → (left a v w : ℕ) → R v w
-      → (x : Next) → decoded (c .page) (c .limit) left v ≡ x → AlikeTraces R (onward below left a v x) (onward below2 left a w x)
+      → (x : Next) → decoded (c .page) (c .limit .0) left v ≡ x → AlikeTraces R (onward below left a v x) (onward below2 left a w x)
   onward-alike below below2 h left a v w k (next.Fault kind) d = record { visited = refl; ends = faults kind (levelOf left) }
-  onward-alike below below2 h left a v w k (next.Table table) d = h (table .0) (aligned8 (c .page) (table .0) g (is-table (c .page) (c .limit) left v table d .aligned))
+  onward-alike below below2 h left a v w k (next.Table table) d = h (table .0) (aligned8 (c .page) (table .0) g (is-table (c .page) (c .limit .0) left v table d .aligned))
   onward-alike below below2 h left a v w k next.Leaf d = record { visited = refl; ends = leaves a left k }
 
   word-alike : (below below2 : ℕ → Trace) → ((t : ℕ) → t % 8 ≡ 0 → AlikeTraces R (below t) (below2 t)) → (left a : ℕ) {x y : Word} → AlikeWords R x y
@@ -49,8 +49,8 @@ module _ (R : ℕ → ℕ → Type 0) (c : Context) (g : Paged (c .page))
   unfolding followed
   word-alike below below2 h left a unreachable = record { visited = refl; ends = faults ExternalAbort (levelOf left) }
   word-alike below below2 h left a (values {v = v} {w = w} k) =
-      subst (λ (x : Next). AlikeTraces R (onward below left a v (decoded (c .page) (c .limit) left v)) (onward below2 left a w x)) (sym (unseen left v w k))
-      (onward-alike below below2 h left a v w k (decoded (c .page) (c .limit) left v) refl)
+      subst (λ (x : Next). AlikeTraces R (onward below left a v (decoded (c .page) (c .limit .0) left v)) (onward below2 left a w x)) (sym (unseen left v w k))
+      (onward-alike below below2 h left a v w k (decoded (c .page) (c .limit .0) left v) refl)
 
   pub descend-alike : (n t : ℕ) → t % 8 ≡ 0 → AlikeTraces R (descend c read n t) (descend c read2 n t)
   unfolding descend entered
@@ -62,7 +62,7 @@ module _ (R : ℕ → ℕ → Type 0) (c : Context) (g : Paged (c .page))
 
 -- from the root on, where the root's address is a multiple of 8
 pub locate-alike : (R : ℕ → ℕ → Type 0) (r : Regime) (a : ℕ)
-    → ((left v w : ℕ) → R v w → decoded (contextOf r a .page) (contextOf r a .limit) left w ≡ decoded (contextOf r a .page) (contextOf r a .limit) left v)
+    → ((left v w : ℕ) → R v w → decoded (contextOf r a .page) (contextOf r a .limit .0) left w ≡ decoded (contextOf r a .page) (contextOf r a .limit .0) left v)
     → (read read2 : ℕ → Word) → ((x : ℕ) → x % 8 ≡ 0 → AlikeWords R (read x) (read2 x)) → rangeOf r a .root .0 % 8 ≡ 0 → AlikeTraces R (locate r read a) (locate r read2 a)
 unfolding locate
 locate-alike R r a unseen read read2 alike e =

@@ -10,6 +10,8 @@ use Rattle.vmsa.specs.Limits.{addressLimit, pageBits}
 use Rattle.geometry.specs.Geometry.{levelOf, pageSize, span, strideBits, blockAt, firstLeft, cut, outputLimit}
 use Rattle.vmsa.specs.declared.Regime.{Regime}
 use Rattle.vmsa.specs.declared.Range.{Range}
+use Rattle.vmsa.specs.declared.PhysAddr.{PhysAddr}
+use Rattle.vmsa.specs.declared.VirtAddr.{VirtAddr}
 use Rattle.vmsa.specs.declared.FaultKind.the-variants.{AddressSize, Translation, ExternalAbort}
 use Rattle.lookup.specs.declared.Word.{Word}
 use Rattle.lookup.specs.declared.Word.the-variants.{Value, Unreachable}
@@ -47,12 +49,12 @@ fetched pool base a = pick (leb base a && leb (a + 8) (base + length pool)) (Val
 -- ---- one level: its entry is read, and followed
 
 -- what the levels share, part by part
-abbrev pub context : ℕ → ℕ → ℕ → ℕ → Context
-context base limit input page = record { base = record { 0 = base }; limit = limit; input = input; page = page }
+abbrev pub context : PhysAddr → PhysAddr → VirtAddr → ℕ → Context
+context base limit input page = record { base = base; limit = limit; input = input; page = page }
 
 -- the address of a table's entry: the index is the input's bits at that level (step 2)
 unfoldable pub entryAt : Context → ℕ → ℕ → ℕ
-entryAt c left table = table + 8 * (c .input / span (c .page) left % 2 ^ strideBits (c .page))
+entryAt c left table = table + 8 * (c .input .0 / span (c .page) left % 2 ^ strideBits (c .page))
 
 -- where the descriptor v at address a leads; below goes on at a table, one level lower
 abbrev pub onward : (ℕ → Trace) → ℕ → ℕ → ℕ → Next → Trace
@@ -61,7 +63,7 @@ onward below left a v (next.Table table) = below (table .0)
 onward below left a v next.Leaf = ended (leaf a v left)
 
 unfoldable pub followed : Context → (ℕ → Trace) → ℕ → ℕ → ℕ → Trace
-followed c below left a v = onward below left a v (decoded (c .page) (c .limit) left v)
+followed c below left a v = onward below left a v (decoded (c .page) (c .limit .0) left v)
 
 abbrev pub onWord : Trace → (ℕ → Trace) → Word → Trace
 onWord unreachable value (Value v) = value v
@@ -92,7 +94,7 @@ outside t a = not (eqb (a / 2 ^ (64 - t)) (pick (upper a) (2 ^ t - 1) 0))
 
 -- what the levels share: the index is cut at the first level to bits below 64 - t
 unfoldable pub contextOf : Regime → ℕ → Context
-contextOf r a = record { base = r .pool .address; limit = outputLimit (r .output); input = a % 2 ^ (64 - rangeOf r a .tsz); page = pageBits }
+contextOf r a = record { base = r .pool .address; limit = record { 0 = outputLimit (r .output) }; input = record { 0 = a % 2 ^ (64 - rangeOf r a .tsz) }; page = pageBits }
 
 unfoldable pub locate : Regime → (ℕ → Word) → ℕ → Trace
 locate r read a =

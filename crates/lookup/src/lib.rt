@@ -26,8 +26,8 @@ const LEAF: u64 = 6;
 // the guest address below its range's size, and the page bits of the granule.
 pub struct Context {
     pub base: PhysAddr,
-    pub limit: u64,
-    pub input: u64,
+    pub limit: PhysAddr,
+    pub input: VirtAddr,
     pub page: u8,
 }
 
@@ -100,11 +100,11 @@ fn kind_numbered(number: u64) -> FaultKind
 
 // How a lookup ends, in one number: it passes in a register, where a struct would pass through memory at every level.
 // number is that of the fault kind or of a leaf, address that of the leaf's descriptor or 0.
-fn pack(reads: u8, left: u8, number: u64, address: u64) -> u64
-    requires { ⌜ (reads ≤ 4) × (left ≤ 3) × (number ≤ 6) × (address < 2 ^ 49) ⌝ }
-    ensures { λ n. ⌜ n ≡ joined reads (levelOf left) number address ⌝ }
+fn pack(reads: u8, left: u8, number: u64, address: PhysAddr) -> u64
+    requires { ⌜ (reads ≤ 4) × (left ≤ 3) × (number ≤ 6) × (address .0 < 2 ^ 49) ⌝ }
+    ensures { λ n. ⌜ n ≡ joined reads (levelOf left) number (address .0) ⌝ }
 {
-    reads as u64 + READS * (geometry::level(left) as u64 + LEVELS * (number + ENDINGS * address))
+    reads as u64 + READS * (geometry::level(left) as u64 + LEVELS * (number + ENDINGS * address.0))
 }
 
 fn invalid(p: u8, left: u8, v: u64) -> bool
@@ -121,30 +121,30 @@ fn is_table(left: u8, v: u64) -> bool
 }
 
 // The address in a descriptor: a table's, or the output address of a leaf.
-fn address_in(p: u8, left: u8, v: u64) -> u64
+fn address_in(p: u8, left: u8, v: u64) -> PhysAddr
     requires { ⌜ Paged p × (left ≤ 3) ⌝ }
-    ensures { λ r. ⌜ (r ≡ addressIn p left v) × (r < addressLimit) ⌝ }
+    ensures { λ r. ⌜ (r .0 ≡ addressIn p left v) × (r .0 < addressLimit) ⌝ }
 {
     if is_table(left, v) {
-        return geometry::cut(v, geometry::page_size(p));
+        return PhysAddr(geometry::cut(v, geometry::page_size(p)));
     }
-    geometry::cut(v, geometry::span(p, left))
+    PhysAddr(geometry::cut(v, geometry::span(p, left)))
 }
 
 // Steps 4 and 5: what the descriptor v says at a level.
-pub fn decode(p: u8, limit: u64, left: u8, v: u64) -> Next
+pub fn decode(p: u8, limit: PhysAddr, left: u8, v: u64) -> Next
     requires { ⌜ Paged p × (left ≤ 3) ⌝ }
-    ensures { λ r. ⌜ (r ≡ decoded p limit left v) × Sound left r ⌝ }
+    ensures { λ r. ⌜ (r ≡ decoded p (limit .0) left v) × Sound left r ⌝ }
 {
     if invalid(p, left, v) {
         return Next::Fault(FaultKind::Translation);
     }
     let address = address_in(p, left, v);
-    if limit <= address {
+    if limit.0 <= address.0 {
         return Next::Fault(FaultKind::AddressSize);
     }
     if is_table(left, v) {
-        return Next::Table(PhysAddr(address));
+        return Next::Table(address);
     }
     Next::Leaf
 }
@@ -170,54 +170,59 @@ pub fn entry_at(c: Context, left: u8, table: PhysAddr) -> PhysAddr
     ensures { λ r. ⌜ (r .0 ≡ entryAt c left (table .0)) × (r .0 < 2 ^ 49) ⌝ }
 {
     let p = c.page;
-    PhysAddr(table.0 + 8 * (c.input / geometry::span(p, left) % geometry::entries(p)))
+    PhysAddr(table.0 + 8 * (c.input.0 / geometry::span(p, left) % geometry::entries(p)))
 }
 
 // Reads the entry of a table, and follows it.
 fn enter(
     pool: &[u8],
-    base: u64,
-    limit: u64,
-    input: u64,
+    base: PhysAddr,
+    limit: PhysAddr,
+    input: VirtAddr,
     page: u8,
-    table: u64,
+    table: PhysAddr,
     left: u8,
     reads: u8,
 ) -> u64
-    requires { ⌜ Paged page × (left + reads ≤ 3) × (table < addressLimit) ⌝ }
-    ensures { λ n. ⌜ n ≡ packed reads (descend (context base limit input page) (fetched (now (pool .entry)) base) (suc left) table) ⌝ }
+    requires { ⌜ Paged page × (left + reads ≤ 3) × (table .0 < addressLimit) ⌝ }
+    ensures { λ n. ⌜ n ≡ packed reads (descend (context base limit input page) (fetched (now (pool .entry)) (base .0)) (suc left) (table .0)) ⌝ }
 {
     let c = Context {
-        base: PhysAddr(base),
+        base: base,
         limit: limit,
         input: input,
         page: page,
     };
-    let at = entry_at(c, left, PhysAddr(table));
-    let Word::Value(v) = fetch(pool, c.base, at) else {
-        return pack(reads + 1, left, kind_number(FaultKind::ExternalAbort), 0);
+    let at = entry_at(c, left, table);
+    let Word::Value(v) = fetch(pool, base, at) else {
+        return pack(
+            reads + 1,
+            left,
+            kind_number(FaultKind::ExternalAbort),
+            PhysAddr(0),
+        );
     };
-    follow(pool, base, limit, input, page, at.0, v, left, reads + 1)
+    follow(pool, base, limit, input, page, at, v, left, reads + 1)
 }
 
 // Decodes the descriptor v at an address, and descends at a table.
 fn follow(
     pool: &[u8],
-    base: u64,
-    limit: u64,
-    input: u64,
+    base: PhysAddr,
+    limit: PhysAddr,
+    input: VirtAddr,
     page: u8,
-    at: u64,
+    at: PhysAddr,
     v: u64,
     left: u8,
     reads: u8,
 ) -> u64
-    requires { ⌜ Paged page × (left + reads ≤ 4) × (left ≤ 3) × (at < 2 ^ 49) ⌝ }
-    ensures { λ n. ⌜ n ≡ packed reads (followed (context base limit input page) (descend (context base limit input page) (fetched (now (pool .entry)) base) left) left at v) ⌝ }
+    requires { ⌜ Paged page × (left + reads ≤ 4) × (left ≤ 3) × (at .0 < 2 ^ 49) ⌝ }
+    ensures { λ n. ⌜ n ≡ packed reads (followed (context base limit input page) (descend (context base limit input page) (fetched (now (pool .entry)) (base .0)) left) left (at .0) v) ⌝ }
 {
     match decode(page, limit, left, v) {
-        Next::Fault(kind) => pack(reads, left, kind_number(kind), 0),
-        Next::Table(table) => enter(pool, base, limit, input, page, table.0, left - 1, reads),
+        Next::Fault(kind) => pack(reads, left, kind_number(kind), PhysAddr(0)),
+        Next::Table(table) => enter(pool, base, limit, input, page, table, left - 1, reads),
         Next::Leaf => pack(reads, left, LEAF, at),
     }
 }
@@ -279,14 +284,14 @@ pub fn locate(pool: &[u8], r: Regime, a: VirtAddr) -> Located
     if range.disabled | outside(t, a) {
         return failed(FaultKind::Translation, 0, 0);
     }
-    let limit = geometry::output_limit(r.output);
+    let limit = PhysAddr(geometry::output_limit(r.output));
     let root = range.root;
-    if limit <= root.0 {
+    if limit.0 <= root.0 {
         return failed(FaultKind::AddressSize, 0, 0);
     }
     let base = r.pool.address;
-    let input = a.0 % descriptor::power(64 - t);
+    let input = VirtAddr(a.0 % descriptor::power(64 - t));
     let left = geometry::first_left(vmsa::PAGE_BITS, t);
-    let n = enter(pool, base.0, limit, input, vmsa::PAGE_BITS, root.0, left, 0);
+    let n = enter(pool, base, limit, input, vmsa::PAGE_BITS, root, left, 0);
     unpack(pool, base, n)
 }

@@ -167,7 +167,7 @@ module _ (r : Regime) (pool : List ℕ) (i w : ℕ) (b8 : r .pool .address .0 % 
   unfolding traced after
   traces =
       locate-alike Alike r x
-      (λ left v y k. sym (decoded-same (contextOf r x .page) (contextOf r x .limit) left v y (context-paged r x .least) k))
+      (λ left v y k. sym (decoded-same (contextOf r x .page) (contextOf r x .limit .0) left v y (context-paged r x .least) k))
       (fetched pool (r .pool .address .0)) (fetched later (r .pool .address .0)) (alike-words pool (r .pool .address .0) i w b8 i8 fits small unseen) (usable-root r x u)
 
   spot-by : (n : ℕ) {e f : End} → AlikeEnds Alike e f → traced r pool x .end ≡ e → traced r later x .end ≡ f

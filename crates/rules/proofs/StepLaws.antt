@@ -75,7 +75,7 @@ module _ (r : Regime) (a : Access) where
     descriptor-steps : (below : ℕ → List Step) (goes : ℕ → Trace) (left at v : ℕ) → ((t : ℕ) → isTable left v ≡ true → firstFault (below t) ≡ endFault (goes t .end))
         → firstFault (descriptorSteps r a c below left v) ≡ endFault (followed c goes left at v .end)
     unfolding descriptorSteps followed decoded
-    descriptor-steps below goes left at v h = by (invalid (c .page) left v) (leb (c .limit) (addressIn (c .page) left v)) (isTable left v) refl
+    descriptor-steps below goes left at v h = by (invalid (c .page) left v) (leb (c .limit .0) (addressIn (c .page) left v)) (isTable left v) refl
       where
         by : (i x t : Bool) → isTable left v ≡ t
             → firstFault

@@ -47,7 +47,7 @@ leafSteps r a l =
 unfoldable pub descriptorSteps : Regime → Access → Context → (ℕ → List Step) → ℕ → ℕ → List Step
 descriptorSteps r a c below left v =
     step (invalid (c .page) left v) Translation (levelOf left)
-    ∷ step (leb (c .limit) (addressIn (c .page) left v)) AddressSize (levelOf left)
+    ∷ step (leb (c .limit .0) (addressIn (c .page) left v)) AddressSize (levelOf left)
     ∷ pick (isTable left v) (below (addressIn (c .page) left v)) (leafSteps r a (record { value = v; left = left }))
 
 -- 3: a descriptor that is not wholly in the pool ends the walk

@@ -190,21 +190,19 @@ fn answer_entry(entry: Entry, memory: &mut [u8], r: Regime, a: Access) -> Filled
     requires { ⌜ (r .pool .start + r .pool .length ≤ length (now memory)) × (0 < a .size) ⌝ }
     ensures { λ x. ⌜ filling (x .entry) (now (memory .exit)) (replyOf (view (x .answer))) ≡ filledBy entry a (accessHeld ours r (now (memory .entry)) a (heldIn (entryView entry) (ours .page r a))) ⌝ }
 {
-    match entry.ask(r, a) {
-        Asked::Answered(answer) => Filled {
-            entry: entry,
+    let Asked::Answered(answer) = entry.ask(r, a) else {
+        let missed = miss(memory, r, a);
+        let kept = missed.kept;
+        let answer = missed.answer;
+        let page = geometry::page_of(vmsa::PAGE_BITS, a.address);
+        return Filled {
+            entry: entry.keep(page, kept),
             answer: answer,
-        },
-        Asked::Walk => {
-            let missed = miss(memory, r, a);
-            let kept = missed.kept;
-            let answer = missed.answer;
-            let page = geometry::page_of(vmsa::PAGE_BITS, a.address);
-            Filled {
-                entry: entry.keep(page, kept),
-                answer: answer,
-            }
-        }
+        };
+    };
+    Filled {
+        entry: entry,
+        answer: answer,
     }
 }
 

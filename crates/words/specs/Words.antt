@@ -24,7 +24,8 @@ use Rattle.words.specs.declared.SetWords.{SetWords}
 
 -- 0 read, 1 write, 2 update, 3 fetch, 4 probe-read, 5 probe-write; a number above is an update, so that no write passes without its mark
 abbrev pub accessKind : ℕ → AccessKind
-accessKind n = pick (eqb n 0) Read (pick (eqb n 1) Write (pick (eqb n 3) Fetch (pick (eqb n 4) ProbeRead (pick (eqb n 5) ProbeWrite Update))))
+accessKind n =
+    pick (eqb n 0) Read (pick (eqb n 1) Write (pick (eqb n 2) Update (pick (eqb n 3) Fetch (pick (eqb n 4) ProbeRead (pick (eqb n 5) ProbeWrite Update)))))
 
 unfoldable pub accessOf : AccessWords → Access
 accessOf w = record { address = record { 0 = w .address }; size = w .size; el0 = flag (w .el0); kind = accessKind (w .kind) }

@@ -75,6 +75,9 @@ fn access_kind(n: u8) -> AccessKind
     if n == 1 {
         return AccessKind::Write;
     }
+    if n == 2 {
+        return AccessKind::Update;
+    }
     if n == 3 {
         return AccessKind::Fetch;
     }

@@ -72,10 +72,10 @@ enter-returns : (t : ℕ) → enter-lts.Need-returns (enter-calls t) (enter-at t
 enter-returns t c =
     let a = c .before .before .before .before .before .before .before .args in
     let k = context (a .base) (a .limit) (a .input) (a .page) in
-    let read = fetched (a .pool .now) (a .base) in
+    let read = fetched (a .pool .now) (a .base .0) in
     c .pack .ensures
     ∙ ap (λ (number : ℕ). joined (a .reads + 1) (levelOf (a .left)) number 0) (c .before .kind-number .ensures .0)
-    ∙ sym (abort-packed k read (a .left) (a .table) (a .reads)
+    ∙ sym (abort-packed k read (a .left) (a .table .0) (a .reads)
     (rw (← c .before .before .before .before .before .entry-at .ensures .0) (sym (c .before .before .before .before .fetch .ensures) ∙ c .before .before .enum-told .given .1)))
 
 enter-add-follow : (t : ℕ) → enter-lts.Need-add-follow (enter-calls t) (enter-at t) enter.Post
@@ -88,9 +88,9 @@ enter-returns-2 : (t : ℕ) → enter-lts.Need-returns-2 (enter-calls t) (enter-
 enter-returns-2 t c =
     let a = c .before .before .before .before .before .before .before .args in
     let k = context (a .base) (a .limit) (a .input) (a .page) in
-    let read = fetched (a .pool .now) (a .base) in
+    let read = fetched (a .pool .now) (a .base .0) in
     c .follow .ensures
-    ∙ sym (rw (← c .before .before .before .before .before .entry-at .ensures .0) at (value-packed k read (a .left) (a .table) (a .reads) (c .before .before .v .given .0 .0)
+    ∙ sym (rw (← c .before .before .before .before .before .entry-at .ensures .0) at (value-packed k read (a .left) (a .table .0) (a .reads) (c .before .before .v .given .0 .0)
     (rw (← c .before .before .before .before .before .entry-at .ensures .0) (sym (c .before .before .before .before .fetch .ensures) ∙ c .before .before .v .given .1))))
 
 follow-decode-requires : (t : ℕ) → follow-lts.Need-decode-requires (follow-calls t) (follow-at t) follow.Post
@@ -128,28 +128,28 @@ follow-returns : (t : ℕ) → follow-lts.Need-returns (follow-calls t) (follow-
 follow-returns t c =
     let a = c .before .before .before .before .before .before .before .args in
     let k = context (a .base) (a .limit) (a .input) (a .page) in
-    let read = fetched (a .pool .now) (a .base) in
+    let read = fetched (a .pool .now) (a .base .0) in
     c .pack .ensures
     ∙ ap (λ (number : ℕ). joined (a .reads) (levelOf (a .left)) number 0) (c .before .kind-number .ensures .0)
-    ∙ sym (fault-packed k (descend k read (a .left)) (a .left) (a .at) (a .v) (a .reads) _ (sym (c .before .before .before .before .before .decode .ensures .0) ∙ c .before .before .before .kind .given .1))
+    ∙ sym (fault-packed k (descend k read (a .left)) (a .left) (a .at .0) (a .v) (a .reads) _ (sym (c .before .before .before .before .before .decode .ensures .0) ∙ c .before .before .before .kind .given .1))
 
 follow-returns-2 : (t : ℕ) → follow-lts.Need-returns-2 (follow-calls t) (follow-at t) follow.Post
 follow-returns-2 t c =
     let a = c .before .before .before .before .before .before .args in
     let k = context (a .base) (a .limit) (a .input) (a .page) in
-    let read = fetched (a .pool .now) (a .base) in
+    let read = fetched (a .pool .now) (a .base .0) in
     let h : Sound (c .before .before .before .before .before .before .args .left) (Table (c .before .before .table .given .0 .0)) = rw (c .before .before .table .given .1) at (c .before .before .before .before .decode .ensures .1) in
     c .enter .ensures
-    ∙ sym (table-packed k (descend k read (a .left)) (a .left) (a .at) (a .v) (a .reads) _ (sym (c .before .before .before .before .decode .ensures .0) ∙ c .before .before .table .given .1)
+    ∙ sym (table-packed k (descend k read (a .left)) (a .left) (a .at .0) (a .v) (a .reads) _ (sym (c .before .before .before .before .decode .ensures .0) ∙ c .before .before .table .given .1)
     ∙ ap (λ (n : ℕ). packed (a .reads) (descend k read n (c .before .before .table .given .0 .0 .0))) (sym (down-up (a .left) (h .1))))
 
 follow-returns-3 : (t : ℕ) → follow-lts.Need-returns-3 (follow-calls t) (follow-at t) follow.Post
 follow-returns-3 t c =
     let a = c .before .before .before .before .before .args in
     let k = context (a .base) (a .limit) (a .input) (a .page) in
-    let read = fetched (a .pool .now) (a .base) in
+    let read = fetched (a .pool .now) (a .base .0) in
     c .pack2 .ensures
-    ∙ sym (leaf-packed k (descend k read (a .left)) (a .left) (a .at) (a .v) (a .reads) (sym (c .before .before .before .decode .ensures .0) ∙ c .before .enum-told .given .1))
+    ∙ sym (leaf-packed k (descend k read (a .left)) (a .left) (a .at .0) (a .v) (a .reads) (sym (c .before .before .before .decode .ensures .0) ∙ c .before .enum-told .given .1))
 
 pub +enter+follow-spec : {M : Type 1} → statement M
 +enter+follow-spec = close μ-enter μ-follow (λ t. enter-lts.spec (enter-calls t)

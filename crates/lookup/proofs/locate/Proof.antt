@@ -20,31 +20,31 @@ returns c =
 
 returns-2 : tie.Need-returns-2
 returns-2 c =
-    let a = c .before .before .before .before .before .before .before .before .before .before .args in
-    let g = c .before .before .before .before .before .before .before .before .range-of in
+    let a = c .before .before .before .before .before .before .before .before .before .before .before .args in
+    let g = c .before .before .before .before .before .before .before .before .before .range-of in
     let read = fetched (a .pool .now) (a .r .pool .address .0) in
-    let h : (g .result .disabled || outside (g .result .tsz) (a .a .0)) ≡ false = rw (c .before .before .before .before .before .before .before .outside .ensures) at (c .before .before .before .before .before .if1 .left) in
-    c .failed2 .ensures ∙ sym (ap (shown 0) (locate-root (a .r) read (a .a .0) (g .result) (g .ensures .0) h (rw (c .before .before .before .before .output-limit .ensures .0) at (c .before .if2 .taken))))
+    let h : (g .result .disabled || outside (g .result .tsz) (a .a .0)) ≡ false = rw (c .before .before .before .before .before .before .before .before .outside .ensures) at (c .before .before .before .before .before .before .if1 .left) in
+    c .failed2 .ensures ∙ sym (ap (shown 0) (locate-root (a .r) read (a .a .0) (g .result) (g .ensures .0) h (rw (c .before .before .before .before .before .output-limit .ensures .0) at (c .before .if2 .taken))))
 
 unpack-requires : tie.Need-unpack-requires
 unpack-requires c κs =
-    let a = c .before .before .before .before .before .before .before .before .before .before .before .before .before .before .args in
-    let base = a .r .pool .address .0 in
-    let k = context base (c .before .before .before .before .before .before .before .before .output-limit .result) (a .a .0 % c .before .before .before .power .result) pageBits in
-    descent k (a .pool .now) base (c .before .first-left .result) (c .before .before .before .before .before .before .before .before .before .before .before .before .range-of .result .root .0) (c .enter .result) (c .before .first-left .ensures .1) (c .enter .ensures)
+    let a = c .before .before .before .before .before .before .before .before .before .before .before .before .before .before .before .args in
+    let base = a .r .pool .address in
+    let k = context base (record { 0 = c .before .before .before .before .before .before .before .before .before .output-limit .result }) (record { 0 = a .a .0 % c .before .before .before .power .result }) pageBits in
+    descent k (a .pool .now) (base .0) (c .before .first-left .result) (c .before .before .before .before .before .before .before .before .before .before .before .before .before .range-of .result .root .0) (c .enter .result) (c .before .first-left .ensures .1) (c .enter .ensures)
 
 returns-3 : tie.Need-returns-3
 returns-3 c =
-    let a = c .before .before .before .before .before .before .before .before .before .before .before .before .before .before .before .args in
-    let g = c .before .before .before .before .before .before .before .before .before .before .before .before .before .range-of in
-    let base = a .r .pool .address .0 in
-    let limit = c .before .before .before .before .before .before .before .before .before .output-limit in
+    let a = c .before .before .before .before .before .before .before .before .before .before .before .before .before .before .before .before .args in
+    let g = c .before .before .before .before .before .before .before .before .before .before .before .before .before .before .range-of in
+    let base = a .r .pool .address in
+    let limit = c .before .before .before .before .before .before .before .before .before .before .output-limit in
     let power = c .before .before .before .before .power in
     let first = c .before .before .first-left in
-    let k = context base (limit .result) (a .a .0 % power .result) pageBits in
-    let h : (g .result .disabled || outside (g .result .tsz) (a .a .0)) ≡ false = rw (c .before .before .before .before .before .before .before .before .before .before .before .before .outside .ensures) at (c .before .before .before .before .before .before .before .before .before .before .if1 .left) in
-    c .unpack .ensures (descent k (a .pool .now) base (first .result) (g .result .root .0) (c .before .enter .result) (first .ensures .1) (c .before .enter .ensures))
-    ∙ sym (ap (shown 0) (locate-go (a .r) (fetched (a .pool .now) base) (a .a .0) (g .result) (g .ensures .0) h (limit .result) (power .result) (first .result) (limit .ensures .0) (c .before .before .before .before .before .before .if2 .left) (power .ensures .0) (first .ensures .0) k refl))
+    let k = context base (record { 0 = limit .result }) (record { 0 = a .a .0 % power .result }) pageBits in
+    let h : (g .result .disabled || outside (g .result .tsz) (a .a .0)) ≡ false = rw (c .before .before .before .before .before .before .before .before .before .before .before .before .before .outside .ensures) at (c .before .before .before .before .before .before .before .before .before .before .before .if1 .left) in
+    c .unpack .ensures (descent k (a .pool .now) (base .0) (first .result) (g .result .root .0) (c .before .enter .result) (first .ensures .1) (c .before .enter .ensures))
+    ∙ sym (ap (shown 0) (locate-go (a .r) (fetched (a .pool .now) (base .0)) (a .a .0) (g .result) (g .ensures .0) h (limit .result) (power .result) (first .result) (limit .ensures .0) (c .before .before .before .before .before .before .if2 .left) (power .ensures .0) (first .ensures .0) k refl))
 
 pub locate-spec : {M : Type 1} → statement M
 locate-spec =

@@ -5,7 +5,7 @@ use Rattle.lookup.proofs.pack.Tie as tie
 
 returns : tie.Need-returns
 unfolding joined
-returns c = rw (c .level .ensures)
+returns c = rw (c .before .level .ensures)
 
 pub pack-spec : {M : Type 1} → statement M
 pack-spec =
