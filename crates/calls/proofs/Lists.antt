@@ -25,11 +25,11 @@ module _ {S : Type 0} (regime : S → Option Regime) (F : Functions S) (rule : (
   each : {s : S} {m : List ℕ} {past : List Event} → Chain F s₀ m₀ s m past → EachCall (regime s₀) past
   each none-yet = tt
   each (more {s = s} {m = m} {c = c} {x = x} before made) =
-      (subst (λ (g : Option Regime). Rule1Event g (event c m x)) (known before) (rule s m c x made .told), each before)
+      (subst (λ (g : Option Regime). Rule1Event g (event c m x)) (known before) (rule s m c x made .shows), each before)
 
   long : {s : S} {m : List ℕ} {past : List Event} → Chain F s₀ m₀ s m past → length m ≡ length m₀
   long none-yet = refl
-  long (more {s = s} {m = m} {c = c} {x = x} before made) = rule s m c x made .told .long ∙ long before
+  long (more {s = s} {m = m} {c = c} {x = x} before made) = rule s m c x made .shows .long ∙ long before
 
   module _ (At : ℕ → Type 0) where
     reach : {s : S} {m : List ℕ} {past : List Event} → Chain F s₀ m₀ s m past → (c : Call) → ((i : ℕ) → Reach (regimeFrom (regime s₀) past) c i → At i)
@@ -39,7 +39,7 @@ module _ {S : Type 0} (regime : S → Option Regime) (F : Functions S) (rule : (
     outside : {s : S} {m : List ℕ} {past : List Event} → Chain F s₀ m₀ s m past → Reaches At (regime s₀) past → (i : ℕ) → (At i → ⊥) → getD m i 0 ≡ getD m₀ i 0
     outside none-yet f i o = refl
     outside (more {s = s} {m = m} {c = c} {x = x} before made) f i o =
-        rule s m c x made .told .outside i (λ q. o (reach before c (f .0) i q)) ∙ outside before (f .1) i o
+        rule s m c x made .shows .outside i (λ q. o (reach before c (f .0) i q)) ∙ outside before (f .1) i o
 
     unheard : {s : S} {m : List ℕ} {past : List Event} → Chain F s₀ m₀ s m past → Reaches At (regime s₀) past → (n₀ : List ℕ) → Same At m₀ n₀
         → {t : S} {n : List ℕ} {other : List Event} → Chain F s₀ n₀ t n other → calls past ≡ calls other

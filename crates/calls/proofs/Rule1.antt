@@ -25,7 +25,7 @@ use Rattle.tlb.specs.Replies.{Reply, done, refused, answered, Told, updates}
 use Rattle.tlb.specs.Walker.{Spot, lost, found, andThen, Entry, empty, heldIn, Walked, declined, putWord, walkFrom, walked, accessHeld, accessBy, accessIn}
 use Rattle.tlb.specs.Ours.{offsetOf, located, judged, stamped, ours}
 use Rattle.tlb.specs.Entries.{entryView, regimeIn, pageFor, entryFor, keptEntry}
-use Rattle.tlb.proofs.Walking.{first-append, put-is}
+use Rattle.tlb.proofs.Walking.{first-append, both, put-is}
 use Rattle.tlb.proofs.Found.{where-found, in-the-pool}
 use Rattle.session.specs.declared.Session.{Session as SessionStruct}
 use Rattle.session.specs.Model.{Session, Handed, handed, Stepped, stay, refusal, keep, setBy, learn, accessWith, storeBy, storeIn, Call, setRegime, access, store, dropAll, call}
@@ -183,10 +183,6 @@ module _ (r : Regime) (a : Access) (m n : List ℕ) (h : Same (InPool (some r)) 
       by true = both-walk
       by false = record { reply = refl; kept = refl; memory = still }
 
-first-passed : (x y : Checked) → andThen x y ≡ Accepted → x ≡ Accepted
-first-passed Accepted y e = refl
-first-passed (Refused x) y e = e
-
 module _ (m n : List ℕ) where
   -- rows 1, 6 and 7, and rows 1 and 8
   accessChecks : Regime → Access → ℕ → Checked
@@ -200,7 +196,7 @@ module _ (m n : List ℕ) where
   unfolding accessChecks
   both-access r a x h (Refused y) e = record { reply = refl; kept = refl; memory = still }
   both-access r a x h Accepted e =
-      both-held r a m n h (pooled (length m) (r .pool) (clear (memoryRows (length m) (r .pool)) (first-passed (firstOf (memoryRows (length m) (r .pool))) (firstOf (accessRows a)) e) .0) .fits) x
+      both-held r a m n h (pooled (length m) (r .pool) (clear (memoryRows (length m) (r .pool)) (both (firstOf (memoryRows (length m) (r .pool))) (firstOf (accessRows a)) e .0) .0) .fits) x
 
   both-access-in : (a : Access) (e : Entry) (g : Option Regime) → Same (InPool g) m n → BothWalk (InPool g) m n (accessIn ours g m a e) (accessIn ours g n a e)
   unfolding accessChecks
@@ -291,7 +287,7 @@ rule1-event s m c =
 pub rule-1-call : Rule1OfModel
 rule-1-call s m c =
     record {
-      told = rule1-event s m c;
+      shows = rule1-event s m c;
       kept = λ k q. refusal-keeps s m c k q .0;
       accepted = regime-after s m c;
       unheard = λ At f n h y e.
@@ -330,7 +326,7 @@ rule1-leaves F is s m c x made =
     let h = rule-1-call (sessionView s) m c in
     let e = is s m c x made in
     record {
-      told = subst⁻¹ (λ (t : Handed SessionStruct Reply). Rule1Event (regimeHeld s) (event c m t)) e (h .told);
+      shows = subst⁻¹ (λ (t : Handed SessionStruct Reply). Rule1Event (regimeHeld s) (event c m t)) e (h .shows);
       kept = subst⁻¹ (λ (t : Handed SessionStruct Reply). (k : ℕ) → t .reply ≡ refused k → t .session ≡ s) e (struct-kept s m c);
       accepted =
           subst⁻¹ (λ (t : Handed SessionStruct Reply). regimeHeld (t .session) ≡ regimeAfter c (t .reply) (regimeHeld s)) e

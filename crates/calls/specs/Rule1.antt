@@ -65,7 +65,7 @@ pub record Same (At : ℕ → Type 0) (m n : List ℕ) : Type 0 where
 
 module _ {S : Type 0} (regime : S → Option Regime) (F : Functions S) where
   pub record Rule1Call (s : S) (m : List ℕ) (c : Call) (x : Handed S Reply) : Type 1 where
-    pub told : Rule1Event (regime s) (event c m x)
+    pub shows : Rule1Event (regime s) (event c m x)
     -- a refusal changes no session either
     pub kept : (k : ℕ) → x .reply ≡ refused k → x .session ≡ s
     -- the regime of a session is the one last accepted

@@ -61,7 +61,7 @@ kind-back Permission = (lit≤ tt, refl)
 kind-back ExternalAbort = (lit≤ tt, refl)
 kind-back Alignment = (lit≤ tt, refl)
 
-level-le : (left : ℕ) → levelOf left ≤ 3
+pub level-le : (left : ℕ) → levelOf left ≤ 3
 unfolding levelOf
 level-le left = omega arith
 

@@ -24,6 +24,7 @@ use Rattle.checks.specs.declared.Checked.{Checked}
 use Rattle.checks.specs.declared.Checked.the-variants.{Accepted, Refused}
 use Rattle.tlb.specs.Replies.{Reply, done, refused, answered, Told, told, uncounted, updates, dirties}
 use Rattle.tlb.specs.Walker.{Walker, Spot, lost, found, andThen, noRegime, Entry, empty, holds, entryCount, entryOf, heldIn, revalued, Walked, putWord, landed, walkFrom, walked, recall, accessHeld, accessBy}
+use Rattle.tlb.proofs.Walking.{both}
 use Rattle.session.specs.Model.{noEntries, held, keep, Session, fresh, Stepped, stay, refusal as refusing, Call, setRegime, access, store, dropAll, setBy, setCall, dropCall, storeBy, storeIn, storeCall, learn, accessWith, accessCall, call}
 use Rattle.calls.specs.Chains.{Event, event}
 use Rattle.rule3.specs.Events.{World, start, after, next, run, lastRegime, empties, asksDrop, settled, Moment, counted, anyCount, momentIn, momentOf, orEarlier, latest}
@@ -40,10 +41,6 @@ entry-lt p = mod-lt p (zero-lt-suc 63)
 and-false : {A : Type 0} (b : Bool) (x y : A) → pick (b && false) x y ≡ y
 and-false true x y = refl
 and-false false x y = refl
-
-both : (x y : Checked) → andThen x y ≡ Accepted → (x ≡ Accepted) × (y ≡ Accepted)
-both Accepted y q = (refl, q)
-both (Refused x) y q = (cc, cc)
 
 held-by : (pl : Entry) (p : ℕ) (h : Leaf) → heldIn pl p ≡ some h → pl ≡ holds p h
 held-by empty p h q = cc

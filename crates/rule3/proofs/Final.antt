@@ -20,7 +20,7 @@ use Rattle.walk.proofs.Ends.{ready}
 use Rattle.tlb.specs.Replies.{Reply, Told, told, replyOf}
 use Rattle.tlb.specs.Walker.{andThen, Walked, walked}
 use Rattle.tlb.specs.Ours.{offsetOf, ours}
-use Rattle.tlb.proofs.Walking.{first-append, walked-pool}
+use Rattle.tlb.proofs.Walking.{first-append, both, walked-pool}
 use Rattle.session.specs.declared.Session.{Session as SessionStruct}
 use Rattle.session.specs.Model.{Session, Handed, Stepped, fresh, Call, setRegime, access, store, dropAll, call}
 use Rattle.session.specs.View.{sessionView, viewed}
@@ -50,17 +50,12 @@ checks-of r n a =
     first-append (regimeRows n r) (accessRows a) ∙ ap (λ (x : Checked). andThen x (firstOf (accessRows a))) (first-append (memoryRows n (r .pool)) (settingRows r))
     ∙ then-assoc (firstOf (memoryRows n (r .pool))) (firstOf (settingRows r)) (firstOf (accessRows a))
 
-settings-passed : (x y z : Checked) → andThen x (andThen y z) ≡ Accepted → y ≡ Accepted
-settings-passed Accepted Accepted z q = refl
-settings-passed Accepted (Refused k) z q = q
-settings-passed (Refused k) y z q = cc
-
 plain-by : (r : Regime) (m : List ℕ) (a : Access) (c : Checked) → walkCheck (length m) r a ≡ c
     → _≡_ {A = Told Reply} (record { reply = replyOf (checked r a m c .result); memory = checked r a m c .bytes }) (unlessRefused c m (walked ours r m a))
 plain-by r m a (Refused x) e = refl
 plain-by r m a Accepted e =
     let h = ready (length m) r a e in
-    let u = accepted-usable r (settings-passed (firstOf (memoryRows (length m) (r .pool))) (firstOf (settingRows r)) (firstOf (accessRows a)) (sym (checks-of r (length m) a) ∙ e)) in
+    let u = accepted-usable r (both (firstOf (settingRows r)) (firstOf (accessRows a)) (both (firstOf (memoryRows (length m) (r .pool))) (andThen (firstOf (settingRows r)) (firstOf (accessRows a))) (sym (checks-of r (length m) a) ∙ e) .1) .0) in
     sym (ap (λ (w : Walked). told (w .reply) (w .memory)) (walked-pool r m a (h .sized) (h .root) (h .fits) u))
 
 plain-walk : (r : Regime) (m : List ℕ) (a : Access)

@@ -21,6 +21,7 @@ use Rattle.tlb.specs.Ours.{ours}
 use Rattle.session.specs.declared.Session.{Session as SessionStruct}
 use Rattle.session.specs.Model.{Handed, handed, access}
 use Rattle.session.specs.View.{sessionView, regimeHeld, leaves}
+use Rattle.session.proofs.Calls.{access-answer}
 use Rattle.words.specs.declared.AccessWords.{AccessWords}
 use Rattle.words.specs.declared.AnswerWords.{AnswerWords}
 use Rattle.words.specs.Words.{accessOf, wordsOf, countedWords, replyWords}
@@ -35,7 +36,7 @@ use Rattle.rule3.proofs.Final.{rule-3-next-of}
 use Rattle.rules_c.specs.Readings.{resultIn, answerReply}
 use Rattle.rules_c.specs.Code.{MadeC, accessed}
 use Rattle.rules_c.specs.RulesC.{AccessRule1, AccessRule1OfC, Walks, Recalls, AccessRules, EarlyOfC, AccessOfC}
-use Rattle.rules_c.proofs.Numbers.{result-in, is-refused, of-refused, refused-read, access-answer, words-uncounted, clean-words, clean-read, dirty-words}
+use Rattle.rules_c.proofs.Numbers.{result-in, is-refused, of-refused, refused-read, words-uncounted, clean-words, clean-read, dirty-words}
 use Rattle.rules_c.proofs.Chains.{made-is, made-leaves, empty-fresh, rule-1-call-c, rule-3-c}
 
 -- ---- one access, in any session and over any memory
@@ -71,13 +72,13 @@ pub access-rule-1 : AccessRule1OfC
 access-rule-1 s m a s′ m′ w h =
     let r = rule-1-call-c s m (access (accessOf a)) (handed s′ m′ (answerReply w)) (made s m a s′ m′ w h) in
     record {
-      refusals = λ k. (λ p. r .told .refusals k .0 (refused-reads s m a s′ m′ w h k p), λ f. read-refused s m a s′ m′ w h k (r .told .refusals k .1 f));
+      refusals = λ k. (λ p. r .shows .refusals k .0 (refused-reads s m a s′ m′ w h k p), λ f. read-refused s m a s′ m′ w h k (r .shows .refusals k .1 f));
       kept = λ t. (
         r .kept (w .refusal) (refused-reads s m a s′ m′ w h (w .refusal) (t, refl)),
-        r .told .kept (w .refusal) (refused-reads s m a s′ m′ w h (w .refusal) (t, refl)),
+        r .shows .kept (w .refusal) (refused-reads s m a s′ m′ w h (w .refusal) (t, refl)),
       );
-      long = r .told .long;
-      outside = r .told .outside;
+      long = r .shows .long;
+      outside = r .shows .outside;
       unheard = λ n same t n′ x k.
           let u = r .unheard (InPool (regimeHeld s)) (λ i q. q) n same (handed t n′ (answerReply x)) (made s n a t n′ x k) in
           (own-words s m a s′ m′ w h ∙ ap replyWords (u .0) ∙ sym (own-words s n a t n′ x k), u .1, u .2);

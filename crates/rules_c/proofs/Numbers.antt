@@ -4,35 +4,27 @@ use mathlib.Core.Bool.{Bool, true, false}
 use mathlib.Core.List.{List}
 use mathlib.Core.Option.{Option, none, some}
 use mathlib.Core.Path.{_≡_, refl, sym, ap, subst⁻¹, _∙_}
-use lib.ListN.{length, getD}
-use Rattle.descriptor.specs.Bits.{pick}
+use lib.ListN.{length}
 use Rattle.descriptor.proofs.Tests.{clash}
-use Rattle.vmsa.specs.Answers.{Result, success, fault, refused, Faulted, numberOf, dirtiedIn}
-use Rattle.vmsa.specs.Words.{flag, flagByte}
+use Rattle.vmsa.specs.Answers.{Result, success, fault, refused, Faulted, numberOf}
+use Rattle.vmsa.specs.Words.{flagByte}
+use Rattle.vmsa.proofs.Words.{flag-byte}
 use Rattle.vmsa.specs.declared.Regime.{Regime}
 use Rattle.vmsa.specs.declared.Access.{Access}
-use Rattle.vmsa.specs.declared.Leaf.{Leaf}
 use Rattle.vmsa.specs.declared.Refusal.{Refusal}
 use Rattle.vmsa.specs.declared.Success.{Success}
 use Rattle.checks.specs.declared.Checked.{Checked}
 use Rattle.checks.specs.declared.Checked.the-variants.{Accepted, Refused}
-use Rattle.checks.specs.Order.{firstOf, memoryRows, settingRows, accessRows, storeRows}
-use Rattle.decision.specs.Decision.{decision}
+use Rattle.checks.specs.Order.{firstOf, memoryRows, settingRows, storeRows}
 use Rattle.tlb.specs.Replies.{Reply, done, refused as refusedWith, answered, Told, replyOf, uncounted, dirties}
-use Rattle.tlb.specs.Walker.{Spot, lost, found, andThen, noRegime, Entry, empty, heldIn, Walked, walkFrom, walked, accessHeld, accessBy, accessIn}
-use Rattle.tlb.specs.Ours.{located, judged, ours}
-use Rattle.tlb.specs.Entries.{pageFor, entryFor}
-use Rattle.tlb.proofs.Deciding.{reply-decision}
-use Rattle.session.specs.Model.{Session, Stepped, setBy, learn, storeBy, storeIn, setRegime, access, store, call}
-use Rattle.session.proofs.Calls.{access-learn}
+use Rattle.tlb.specs.Walker.{andThen}
+use Rattle.tlb.specs.Ours.{ours}
+use Rattle.session.specs.Model.{Session, setBy, storeBy, storeIn, setRegime, access, store, call}
+use Rattle.session.proofs.Calls.{access-answer}
 use Rattle.words.specs.declared.AnswerWords.{AnswerWords}
 use Rattle.words.specs.Words.{wordsOf, countedWords, refusalByte, replyWords}
 use Rattle.words.proofs.Reply.{reply-words, not-zero}
 use Rattle.rules_c.specs.Readings.{successIn, faultIn, resultIn, answerReply, numberReply}
-
-flag-byte : (b : Bool) → flag (flagByte b) ≡ b
-flag-byte true = refl
-flag-byte false = refl
 
 -- an answer is read back from its numbers
 pub result-in : (x : Result) → resultIn (wordsOf x) ≡ x
@@ -86,36 +78,7 @@ refused-read (success s) k e = clash (cc)
 refused-read (fault f) k e = clash (cc)
 refused-read (refused n) k e = let z : n ≡ k = cc in ap refused z
 
--- ---- every reply of an access is an answer's
-
-abbrev pub AnAnswer : Reply → Type 0
-AnAnswer reply = (x : Result) × (reply ≡ replyOf x)
-
-module _ (m : List ℕ) (a : Access) where
-  spot-answer : (r : Regime) (at : Spot) → AnAnswer (walkFrom ours r m a at .reply)
-  spot-answer r (lost code level n) = (fault (record { code = code; level = level; cacheable = false; reads = n }), refl)
-  spot-answer r (found at u n) = (decision r a u n .result, sym (reply-decision r a u n))
-
-  held-answer : (r : Regime) (h : Option Leaf) → AnAnswer (accessHeld ours r m a h .reply)
-  held-answer r none = spot-answer r (located r m (ours .page r a))
-  held-answer r (some h) = by (dirtiedIn (judged r h a))
-    where
-      by : (b : Bool) → AnAnswer (pick b (walked ours r m a) (record { reply = answered (judged r h a) 0; memory = m; kept = none }) .reply)
-      by true = spot-answer r (located r m (ours .page r a))
-      by false = (decision r a h 0 .result, sym (reply-decision r a h 0))
-
-  by-answer : (r : Regime) (h : Option Leaf) (x : Checked) → AnAnswer (accessBy ours r m a h x .reply)
-  by-answer r h (Refused x) = (refused (numberOf x), refl)
-  by-answer r h Accepted = held-answer r h
-
-  in-answer : (g : Option Regime) (e : Entry) → AnAnswer (accessIn ours g m a e .reply)
-  in-answer none e = (refused noRegime, refl)
-  in-answer (some r) e = by-answer r (heldIn e (ours .page r a)) (andThen (firstOf (memoryRows (length m) (r .pool))) (firstOf (accessRows a)))
-
-pub access-answer : (s : Session) (m : List ℕ) (a : Access) → AnAnswer (call ours s m (access a) .reply)
-access-answer s m a =
-    let x = in-answer m a (s .regime) (getD (s .entries) (entryFor a) empty) in
-    (x .0, ap (λ (y : Stepped). y .reply) (sym (access-learn s m a (s .regime))) ∙ x .1)
+-- ---- every reply of an access is read back
 
 pub access-read : (s : Session) (m : List ℕ) (a : Access) → answerReply (replyWords (call ours s m (access a) .reply)) ≡ call ours s m (access a) .reply
 access-read s m a = let x = access-answer s m a in subst⁻¹ (λ (y : Reply). answerReply (replyWords y) ≡ y) (x .1) (answer-in (x .0))

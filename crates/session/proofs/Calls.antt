@@ -31,7 +31,7 @@ use Rattle.tlb.specs.Walker.{andThen, noRegime, Entry, empty, entryOf, Walked, 
 use Rattle.tlb.specs.Ours.{offsetOf, ours}
 use Rattle.tlb.specs.Entries.{entryView, noEntry, regimeIn, pageFor, entryFor, Filling, filling, filledBy, accessedEntry, entryReply}
 use Rattle.tlb.proofs.Walking.{first-append, put-is}
-use Rattle.tlb.proofs.Access.{keptIn, accessed-view, LowReply, low-reply, hit-is-access}
+use Rattle.tlb.proofs.Access.{keptIn, accessed-view, AnAnswer, answer-in, hit-is-access}
 use Rattle.session.specs.declared.Session.{Session as SessionStruct}
 use Rattle.session.specs.Model.{Session, Handed, handed, Stepped, keep, setBy, setCall, learn, accessWith, accessCall, storeBy, storeIn, Call, setRegime, access, store, dropAll, call}
 use Rattle.session.specs.View.{sessionView, viewed, setTo, setAfter, entryIn, withEntry, accessedSession, leaves}
@@ -128,6 +128,11 @@ pub access-learn : (s : Session) (m : List ℕ) (a : Access) (g : Option Regime)
 access-learn s m a none = refl
 access-learn s m a (some r) = refl
 
+-- its reply is an answer's
+pub access-answer : (s : Session) (m : List ℕ) (a : Access) → AnAnswer (call ours s m (access a) .reply)
+access-answer s m a =
+    subst (λ (y : Stepped). AnAnswer (y .reply)) (access-learn s m a (s .regime)) (answer-in (s .regime) m a (getD (s .entries) (entryFor a) empty))
+
 module _ (s : SessionStruct) (m : List ℕ) (a : Access) where
   abbrev pub given : Walked
   given = accessIn ours (regimeIn (s .regime) (s .set)) m a (entryView (entryIn s a))
@@ -140,10 +145,6 @@ module _ (s : SessionStruct) (m : List ℕ) (a : Access) where
   access-is =
       ap (λ (e : Entry). learn ours (sessionView s) (pageFor a) (accessIn ours (regimeIn (s .regime) (s .set)) m a e)) (sym entry-view)
       ∙ access-learn (sessionView s) m a (regimeIn (s .regime) (s .set))
-
-  -- a fault that it answers stands at one of the four levels
-  pub access-low : LowReply (leaves s m (access a) .reply)
-  access-low = subst (λ (y : Stepped). LowReply (y .reply)) access-is (low-reply (regimeIn (s .regime) (s .set)) m a (entryView (entryIn s a)))
 
   pub entry-leaves : (x : Filling Reply) → x ≡ accessedEntry (s .regime) (s .set) (entryIn s a) m a → handed (withEntry s (entryFor a) (x .entry)) (x .memory) (x .reply) ≡ leaves s m (access a)
   entry-leaves x e =

@@ -14,13 +14,13 @@ use Rattle.vmsa.proofs.Answers.{number-settles}
 use Rattle.checks.specs.declared.Checked.{Checked}
 use Rattle.checks.specs.declared.Checked.the-variants.{Accepted, Refused}
 use Rattle.tlb.specs.Replies.{Reply, done, replyOf, replyTo}
-use Rattle.tlb.proofs.Access.{LowReply, reply-settles}
+use Rattle.tlb.proofs.Access.{AnAnswer, reply-settles}
 use Rattle.session.specs.declared.Session.{Session as SessionStruct}
 use Rattle.session.specs.declared.Changed.{Changed}
 use Rattle.session.specs.declared.Accessed.{Accessed}
 use Rattle.session.specs.Model.{Handed, handed, setRegime, access, store, dropAll}
-use Rattle.session.specs.View.{emptySession, leaves}
-use Rattle.session.proofs.Calls.{access-low}
+use Rattle.session.specs.View.{sessionView, emptySession, leaves}
+use Rattle.session.proofs.Calls.{access-answer}
 use Rattle.session.proofs.Session.empty.Reads as Empty
 use Rattle.session.proofs.Session.set_regime.Reads as SetRegime
 use Rattle.session.proofs.Session.access.Reads as AccessOf
@@ -71,8 +71,8 @@ module _ (lives : Lfts 1) (s : SessionStruct) (memory : RefT (List ℕ)) where
   access-one a m n x y h k =
       let p = access-promise lives s memory a m x h in
       let e = p ∙ sym (access-promise lives s memory a n y k) in
-      let low : LowReply (replyOf (view (x .answer))) = subst⁻¹ LowReply (ap (λ (t : Handed SessionStruct Reply). t .reply) p) (access-low s (memory .now) a) in
-      let r = reply-settles (x .answer) (y .answer) low (ap (λ (t : Handed SessionStruct Reply). t .reply) e) in
+      let h′ : AnAnswer (replyOf (view (x .answer))) = subst⁻¹ AnAnswer (ap (λ (t : Handed SessionStruct Reply). t .reply) p) (access-answer (sessionView s) (memory .now) a) in
+      let r = reply-settles (x .answer) (y .answer) h′ (ap (λ (t : Handed SessionStruct Reply). t .reply) e) in
       let z : x ≡ y = λ i. record { session = e i .session; answer = r i } in
       (z, ap (λ (t : Handed SessionStruct Reply). t .memory) e)
 

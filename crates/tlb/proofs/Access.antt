@@ -25,11 +25,13 @@ use Rattle.walk.specs.declared.Walked.{Walked as WalkedStruct}
 use Rattle.walk.specs.Walk.{Outcome, outcome, walkPool, keptPool, keptLeaf}
 use Rattle.walk.proofs.Parts.{put-back}
 use Rattle.walk.proofs.Settled.{low-decision}
+use Rattle.decision.specs.Decision.{decision}
 use Rattle.tlb.specs.declared.Entry.{Entry as EntryStruct}
 use Rattle.tlb.specs.Replies.{Reply, done, refused, answered, replyOf}
 use Rattle.tlb.specs.Walker.{Spot, lost, found as foundAt, andThen, noRegime, Entry, holds, heldIn, revalued, Walked, declined, walkFrom, walked, accessHeld, accessBy, accessUnder, accessIn}
 use Rattle.tlb.specs.Ours.{usable, located, judged, stamped, ours}
 use Rattle.tlb.specs.Entries.{entryView, pageFor, keptEntry, entryAnswer, checkedReply, entryReply, hitKindIn, isHit, regimeIn, walkedView}
+use Rattle.tlb.proofs.Deciding.{reply-decision}
 use Rattle.tlb.proofs.Entries.{hitWith, hit-gives, kept-view}
 use Rattle.tlb.proofs.Found.{where-found, in-the-pool, low-lost}
 use Rattle.tlb.proofs.Walking.{first-append, usable-sized, usable-root, walked-pool}
@@ -153,46 +155,36 @@ recounted (success s) = refl
 recounted (fault f) = refl
 recounted (refusedWith n) = refl
 
--- ---- an access's reply is settled by its values, since a fault stands at one of the four levels
+-- ---- every reply of an access is an answer's, and a fault in it stands at one of the four levels; so its values settle the answer
 
-abbrev pub LowReply : Reply → Type 0
-LowReply done = Unit {0}
-LowReply (refused n) = Unit {0}
-LowReply (answered o n) = LowIn o
+abbrev pub AnAnswer : Reply → Type 0
+AnAnswer reply = (x : Result) × (reply ≡ replyOf x) × LowIn x
 
-reply-walk : (r : Regime) (m : List ℕ) (a : Access) (x : Spot) → located r m (ours .page r a) ≡ x → LowReply (walkFrom ours r m a x .reply)
-unfolding judged
-reply-walk r m a (lost code level n) q = low-lost r m (ours .page r a) code level n q
-reply-walk r m a (foundAt at u n) q = low-decision r a u 0
+answer-walk : (r : Regime) (m : List ℕ) (a : Access) (x : Spot) → located r m (ours .page r a) ≡ x → AnAnswer (walkFrom ours r m a x .reply)
+answer-walk r m a (lost code level n) q = (fault (record { code = code; level = level; cacheable = false; reads = n }), refl, low-lost r m (ours .page r a) code level n q)
+answer-walk r m a (foundAt at u n) q = (decision r a u n .result, sym (reply-decision r a u n), low-decision r a u n)
 
-reply-held : (r : Regime) (m : List ℕ) (a : Access) (h : Option Leaf) → LowReply (accessHeld ours r m a h .reply)
-unfolding judged
-reply-held r m a none = reply-walk r m a (located r m (ours .page r a)) refl
-reply-held r m a (some h) = by (dirtiedIn (judged r h a))
+answer-held : (r : Regime) (m : List ℕ) (a : Access) (h : Option Leaf) → AnAnswer (accessHeld ours r m a h .reply)
+answer-held r m a none = answer-walk r m a (located r m (ours .page r a)) refl
+answer-held r m a (some h) = by (dirtiedIn (judged r h a))
   where
-    by : (b : Bool) → LowReply (pick b (walked ours r m a) (hitWith r m a (answered (judged r h a) 0)) .reply)
-    by true = reply-walk r m a (located r m (ours .page r a)) refl
-    by false = low-decision r a h 0
+    by : (b : Bool) → AnAnswer (pick b (walked ours r m a) (hitWith r m a (answered (judged r h a) 0)) .reply)
+    by true = answer-walk r m a (located r m (ours .page r a)) refl
+    by false = (decision r a h 0 .result, sym (reply-decision r a h 0), low-decision r a h 0)
 
-reply-by : (r : Regime) (m : List ℕ) (a : Access) (h : Option Leaf) (x : Checked) → LowReply (accessBy ours r m a h x .reply)
-reply-by r m a h Accepted = reply-held r m a h
-reply-by r m a h (Refused x) = tt
+answer-by : (r : Regime) (m : List ℕ) (a : Access) (h : Option Leaf) (x : Checked) → AnAnswer (accessBy ours r m a h x .reply)
+answer-by r m a h Accepted = answer-held r m a h
+answer-by r m a h (Refused x) = (refusedWith (numberOf x), refl, tt)
 
-pub low-reply : (g : Option Regime) (m : List ℕ) (a : Access) (e : Entry) → LowReply (accessIn ours g m a e .reply)
-low-reply none m a e = tt
-low-reply (some r) m a e = reply-by r m a (heldIn e (ours .page r a)) (andThen (ours .memoryCheck r (length m)) (ours .accessCheck a))
-
--- the reply of an answer, and so the answer
-low-of : (o : Result) → LowReply (replyOf o) → LowIn o
-low-of (success s) h = tt
-low-of (fault f) h = h
-low-of (refusedWith n) h = tt
+pub answer-in : (g : Option Regime) (m : List ℕ) (a : Access) (e : Entry) → AnAnswer (accessIn ours g m a e .reply)
+answer-in none m a e = (refusedWith noRegime, refl, tt)
+answer-in (some r) m a e = answer-by r m a (heldIn e (ours .page r a)) (andThen (ours .memoryCheck r (length m)) (ours .accessCheck a))
 
 result-of : (o p : Result) → replyOf o ≡ replyOf p → o ≡ p
 result-of o p e = sym (recounted o) ∙ ap counted e ∙ recounted p
 
-pub reply-settles : (x y : Answer) → LowReply (replyOf (view x)) → replyOf (view x) ≡ replyOf (view y) → x ≡ y
-reply-settles x y h e = view-settles x y (low-of (view x) h) (result-of (view x) (view y) e)
+pub reply-settles : (x y : Answer) → AnAnswer (replyOf (view x)) → replyOf (view x) ≡ replyOf (view y) → x ≡ y
+reply-settles x y h e = view-settles x y (subst LowIn (sym (result-of (view x) (h .0) (h .1))) (h .2)) (result-of (view x) (view y) e)
 
 -- ---- a hit
 

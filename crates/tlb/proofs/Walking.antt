@@ -48,6 +48,10 @@ first-append (row ∷ xs) ys = by (row .0) (first-append xs ys)
     by true e = refl
     by false e = e
 
+pub both : (x y : Checked) → andThen x y ≡ Accepted → (x ≡ Accepted) × (y ≡ Accepted)
+both Accepted y q = (refl, q)
+both (Refused x) y q = (cc, cc)
+
 -- ---- a usable regime
 
 pub usable-sized : (r : Regime) → usable r ≡ true → Sized r

@@ -4,7 +4,7 @@ use mathlib.Core.Path.{_≡_, refl}
 use Rattle.vmsa.specs.declared.Regime.{Regime}
 use Rattle.vmsa.specs.Words.{flag, flagByte, regimeOf, regimeWords}
 
-flag-byte : (b : Bool) → flag (flagByte b) ≡ b
+pub flag-byte : (b : Bool) → flag (flagByte b) ≡ b
 flag-byte true = refl
 flag-byte false = refl
 

@@ -3,10 +3,8 @@ use Prim.Native.Nat.{ℕ, _≤_}
 use mathlib.Core.Bool.{Bool, true, false}
 use mathlib.Core.List.{List}
 use mathlib.Core.Path.{_≡_, refl, subst}
-use native.Mathlib.Omega.{arith}
 use lib.ListN.{length}
 use Rattle.descriptor.specs.Bits.{pick}
-use Rattle.geometry.specs.Geometry.{levelOf}
 use Rattle.vmsa.specs.Limits.{Sized}
 use Rattle.vmsa.specs.declared.Regime.{Regime}
 use Rattle.vmsa.specs.declared.Access.{Access}
@@ -19,15 +17,12 @@ use Rattle.checks.specs.declared.Checked.the-variants.{Accepted, Refused}
 use Rattle.checks.specs.Order.{walkCheck}
 use Rattle.lookup.specs.Trace.{End, fault, leaf}
 use Rattle.lookup.specs.Packing.{Backed}
+use Rattle.lookup.proofs.Packing.{level-le}
 use Rattle.lookup.proofs.Reach.{locate-backed}
 use Rattle.permission.specs.Permission.{flagFails, alignmentFails, permissionFails}
 use Rattle.decision.specs.Decision.{failing, passing, decision}
 use Rattle.walk.specs.Walk.{poolBytes, concluded, traced, walkPool, checked, walk}
 use Rattle.walk.proofs.Ends.{ready}
-
-level-le : (left : ℕ) → levelOf left ≤ 3
-unfolding levelOf
-level-le left = omega arith
 
 pub low-decision : (r : Regime) (a : Access) (l : Leaf) (n : ℕ) → LowIn (decision r a l n .result)
 unfolding decision failing passing
