@@ -1,7 +1,7 @@
 // The order in which a call is checked: the first row of the table that applies gives the refusal.
 ghost use mathlib.Core.Path.{_≡_};
 ghost use Rattle.descriptor.specs.Bits.{pick};
-ghost use Rattle.checks.specs.Order.{firstBefore, regimeRows, memoryRows, regimeCheck, accessCheck, walkCheck, sessionAccessCheck, sessionStoreCheck};
+ghost use Rattle.checks.specs.Order.{firstBefore, memoryRows, settingRows, regimeRows, regimeCheck, accessCheck, walkCheck, sessionAccessCheck, sessionStoreCheck};
 use refusals::access_size_bad;
 use refusals::attributes_bad;
 use refusals::crosses;
@@ -32,25 +32,38 @@ fn first(bad: bool, refusal: Refusal, rest: Checked) -> Checked
     rest
 }
 
-// 1 to 5, and then what the rest says.
-fn regime_before(n: usize, r: Regime, rest: Checked) -> Checked
-    ensures { λ x. ⌜ x ≡ firstBefore (regimeRows n r) rest ⌝ }
+// The row of the memory and the pool, and then what the rest says.
+fn memory_before(n: usize, pool: Pool, rest: Checked) -> Checked
+    ensures { λ x. ⌜ x ≡ firstBefore (memoryRows n pool) rest ⌝ }
+{
+    first(memory_pool_bad(n, pool), Refusal::MemoryPool, rest)
+}
+
+// The rows of a regime's other settings, and then what the rest says.
+fn settings_before(r: Regime, rest: Checked) -> Checked
+    ensures { λ x. ⌜ x ≡ firstBefore (settingRows r) rest ⌝ }
 {
     let from5 = first(attributes_bad(r.attributes), Refusal::Attributes, rest);
     let from4 = first(roots_bad(r), Refusal::Root, from5);
     let from3 = first(sizes_bad(r), Refusal::Sizes, from4);
-    let from2 = first(pool_address_bad(r.pool), Refusal::PoolAddress, from3);
-    first(memory_pool_bad(n, r.pool), Refusal::MemoryPool, from2)
+    first(pool_address_bad(r.pool), Refusal::PoolAddress, from3)
 }
 
-// Setting a regime over a memory of n bytes: 1 to 5.
+// The rows of a regime, and then what the rest says.
+fn regime_before(n: usize, r: Regime, rest: Checked) -> Checked
+    ensures { λ x. ⌜ x ≡ firstBefore (regimeRows n r) rest ⌝ }
+{
+    memory_before(n, r.pool, settings_before(r, rest))
+}
+
+// Setting a regime over a memory of n bytes.
 pub fn check_regime(n: usize, r: Regime) -> Checked
     ensures { λ x. ⌜ x ≡ regimeCheck n r ⌝ }
 {
     regime_before(n, r, Checked::Accepted)
 }
 
-// An access: 6 and 7.
+// An access by itself.
 pub fn check_access(a: Access) -> Checked
     ensures { λ x. ⌜ x ≡ accessCheck a ⌝ }
 {
@@ -58,28 +71,21 @@ pub fn check_access(a: Access) -> Checked
     first(access_size_bad(a), Refusal::AccessSize, from7)
 }
 
-// A plain walk over a memory of n bytes: 1 to 7.
+// A plain walk over a memory of n bytes.
 pub fn check_walk(n: usize, r: Regime, a: Access) -> Checked
     ensures { λ x. ⌜ x ≡ walkCheck n r a ⌝ }
 {
     regime_before(n, r, check_access(a))
 }
 
-// 1, and then what the rest says.
-fn memory_before(n: usize, pool: Pool, rest: Checked) -> Checked
-    ensures { λ x. ⌜ x ≡ firstBefore (memoryRows n pool) rest ⌝ }
-{
-    first(memory_pool_bad(n, pool), Refusal::MemoryPool, rest)
-}
-
-// An access in a session that has a regime, over a memory of n bytes: 1, 6 and 7.
+// An access in a session that has a regime, over a memory of n bytes.
 pub fn check_session_access(n: usize, pool: Pool, a: Access) -> Checked
     ensures { λ x. ⌜ x ≡ sessionAccessCheck n pool a ⌝ }
 {
     memory_before(n, pool, check_access(a))
 }
 
-// A store in a session that has a regime, over a memory of n bytes: 1 and 8.
+// A store in a session that has a regime, over a memory of n bytes.
 pub fn check_session_store(n: usize, pool: Pool, address: PhysAddr) -> Checked
     ensures { λ x. ⌜ x ≡ sessionStoreCheck n pool (address .0) ⌝ }
 {

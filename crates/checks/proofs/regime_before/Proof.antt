@@ -6,17 +6,4 @@ returns : tie.Need-returns
 returns c = cc
 
 pub regime-before-spec : {M : Type 1} → statement M
-regime-before-spec =
-    tie.close
-    (tie.spec
-    (λ c κs. search needs)
-    (λ c κs. search needs)
-    (λ c κs. search needs)
-    (λ c κs. search needs)
-    (λ c κs. search needs)
-    (λ c κs. search needs)
-    (λ c κs. search needs)
-    (λ c κs. search needs)
-    (λ c κs. search needs)
-    (λ c κs. search needs)
-    returns)
+regime-before-spec = tie.close (tie.spec (λ c κs. search needs) (λ c κs. search needs) returns)
