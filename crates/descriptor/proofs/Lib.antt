@@ -3,3 +3,4 @@ pub mod Laws
 pub mod Numbers
 pub mod BitLaws
 pub mod BitAtLaws
+pub mod Lists

@@ -26,7 +26,8 @@ use Rattle.words.specs.declared.AccessWords.{AccessWords}
 use Rattle.words.specs.declared.AnswerWords.{AnswerWords}
 use Rattle.words.specs.Words.{accessOf, wordsOf, countedWords, replyWords}
 use Rattle.words.proofs.Reply.{reply-words}
-use Rattle.capi.specs.Says.{EmptySays, WalkSays, AccessSays}
+use Rattle.capi_walk.specs.Says.{WalkSays}
+use Rattle.capi_session.specs.Says.{EmptySays, AccessSays}
 use Rattle.calls.specs.Chains.{Event, Chain, more, regimeFrom}
 use Rattle.calls.specs.Rule1.{rowsOf, InPool}
 use Rattle.calls.proofs.Lists.{known}

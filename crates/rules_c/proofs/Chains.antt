@@ -9,7 +9,7 @@ use Rattle.session.specs.Model.{fresh, Handed, handed, Call, setRegime, access,
 use Rattle.session.specs.View.{sessionView, regimeHeld, leaves}
 use Rattle.words.specs.declared.AnswerWords.{AnswerWords}
 use Rattle.words.specs.Words.{accessOf, refusalByte, replyWords, replied}
-use Rattle.capi.specs.Says.{EmptySays}
+use Rattle.capi_session.specs.Says.{EmptySays}
 use Rattle.calls.specs.Chains.{Event, Leaving, Chain}
 use Rattle.calls.proofs.Rule1.{rule1-leaves}
 use Rattle.calls.proofs.Lists.{rule1-list}

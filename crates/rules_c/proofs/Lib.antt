@@ -3,3 +3,4 @@ pub mod Chains
 pub mod Walks
 pub mod Accesses
 pub mod Tied
+pub mod Spare

@@ -15,38 +15,39 @@ use Rattle.session.specs.Model.{handed, setRegime, access, store, dropAll}
 use Rattle.words.specs.declared.AccessWords.{AccessWords}
 use Rattle.words.specs.declared.AnswerWords.{AnswerWords}
 use Rattle.words.specs.Words.{accessOf}
-use Rattle.capi.specs.Says.{EmptySays, WalkSays, SetSays, AccessSays, StoreSays, DropSays}
-use Rattle.capi.proofs.vmsa_session_empty.Reads as Empty
-use Rattle.capi.proofs.Promises.{empty-tells, walkClauses, walk-tells, setClauses, set-tells, accessClauses, access-tells, storeClauses, store-tells, dropClauses, drop-tells}
+use Rattle.capi_walk.specs.Says.{WalkSays}
+use Rattle.capi_walk.proofs.Promises.{walkClauses, walk-tells}
+use Rattle.capi_session.specs.Says.{EmptySays, SetSays, AccessSays, StoreSays, DropSays}
+use Rattle.capi_session.proofs.Promises.{emptyClauses, empty-tells, setClauses, set-tells, accessClauses, access-tells, storeClauses, store-tells, dropClauses, drop-tells}
 use Rattle.rules_c.specs.Readings.{answerReply, numberReply}
 use Rattle.rules_c.specs.Code.{MadeC, set-regime, accessed, stored, dropped-all}
 use Rattle.rules_c.specs.RulesC.{WalkRules}
 use Rattle.rules_c.proofs.Walks.{walk-rules}
 
-pub empty-begins : (s : SessionStruct) → Empty.Learnt tt tt s tt → EmptySays s
-empty-begins s h = empty-tells s h
+pub empty-begins : (W : LogicModel) (lives : Lfts 1) (session : RefT SessionStruct) (s : SessionStruct)
+    → ent (W .𝓤) (emptyClauses W lives session .ensures tt tt (at-last session s, tt)) (fact (W .𝓤) (EmptySays s))
+empty-begins W lives session s = empty-tells W lives session s
 
-module _ (W : LogicModel) (lives : Lfts 3) (memory : RefT (List ℕ)) where
+module _ (W : LogicModel) (lives : Lfts 4) (memory : RefT (List ℕ)) (answer : RefT AnswerWords) where
   pub walk-keeps : (regime : RefT RegimeWords) (a : RefT AccessWords) (m′ : List ℕ) (w : AnswerWords)
-      → ent (W .𝓤) (walkClauses W lives memory regime a .ensures tt w (at-last memory m′, (regime, (a, tt)))) (fact (W .𝓤) (WalkRules (memory .now) (regime .now) (a .now) m′ w))
+      → ent (W .𝓤) (walkClauses W lives memory regime a answer .ensures tt tt (at-last memory m′, (regime, (a, (at-last answer w, tt))))) (fact (W .𝓤) (WalkRules (memory .now) (regime .now) (a .now) m′ w))
   walk-keeps regime a m′ w =
-      via (W .𝓤) (fact (W .𝓤) (WalkSays (memory .now) (regime .now) (a .now) m′ w)) (walk-tells W lives memory regime a m′ w)
+      via (W .𝓤) (fact (W .𝓤) (WalkSays (memory .now) (regime .now) (a .now) m′ w)) (walk-tells W lives memory regime a answer m′ w)
       (fact-mono (W .𝓤) _ _ (λ h. walk-rules (memory .now) (regime .now) (a .now) m′ w h))
 
-  module _ (session : RefT SessionStruct) (s′ : SessionStruct) (m′ : List ℕ) where
-    pub set-makes : (regime : RefT RegimeWords) (n : ℕ)
-        → ent (W .𝓤) (setClauses W lives session memory regime .ensures tt n (at-last session s′, (at-last memory m′, (regime, tt))))
-        (fact (W .𝓤) (MadeC (session .now) (memory .now) (setRegime (regimeOf (regime .now))) (handed s′ m′ (numberReply n))))
-    set-makes regime n =
-        via (W .𝓤) (fact (W .𝓤) (SetSays (session .now) (memory .now) (regime .now) s′ m′ n)) (set-tells W lives session memory regime s′ m′ n)
-        (fact-mono (W .𝓤) _ _ (λ h. set-regime (session .now) (memory .now) (regime .now) s′ m′ n h))
+  pub access-makes : (session : RefT SessionStruct) (s′ : SessionStruct) (m′ : List ℕ) (a : RefT AccessWords) (w : AnswerWords)
+      → ent (W .𝓤) (accessClauses W lives session memory a answer .ensures tt tt (at-last session s′, (at-last memory m′, (a, (at-last answer w, tt)))))
+      (fact (W .𝓤) (MadeC (session .now) (memory .now) (access (accessOf (a .now))) (handed s′ m′ (answerReply w))))
+  access-makes session s′ m′ a w =
+      via (W .𝓤) (fact (W .𝓤) (AccessSays (session .now) (memory .now) (a .now) s′ m′ w)) (access-tells W lives session memory a answer s′ m′ w)
+      (fact-mono (W .𝓤) _ _ (λ h. accessed (session .now) (memory .now) (a .now) s′ m′ w h))
 
-    pub access-makes : (a : RefT AccessWords) (w : AnswerWords)
-        → ent (W .𝓤) (accessClauses W lives session memory a .ensures tt w (at-last session s′, (at-last memory m′, (a, tt))))
-        (fact (W .𝓤) (MadeC (session .now) (memory .now) (access (accessOf (a .now))) (handed s′ m′ (answerReply w))))
-    access-makes a w =
-        via (W .𝓤) (fact (W .𝓤) (AccessSays (session .now) (memory .now) (a .now) s′ m′ w)) (access-tells W lives session memory a s′ m′ w)
-        (fact-mono (W .𝓤) _ _ (λ h. accessed (session .now) (memory .now) (a .now) s′ m′ w h))
+pub set-makes : (W : LogicModel) (lives : Lfts 3) (session : RefT SessionStruct) (memory : RefT (List ℕ)) (s′ : SessionStruct) (m′ : List ℕ) (regime : RefT RegimeWords) (n : ℕ)
+    → ent (W .𝓤) (setClauses W lives session memory regime .ensures tt n (at-last session s′, (at-last memory m′, (regime, tt))))
+    (fact (W .𝓤) (MadeC (session .now) (memory .now) (setRegime (regimeOf (regime .now))) (handed s′ m′ (numberReply n))))
+set-makes W lives session memory s′ m′ regime n =
+    via (W .𝓤) (fact (W .𝓤) (SetSays (session .now) (memory .now) (regime .now) s′ m′ n)) (set-tells W lives session memory regime s′ m′ n)
+    (fact-mono (W .𝓤) _ _ (λ h. set-regime (session .now) (memory .now) (regime .now) s′ m′ n h))
 
 pub store-makes : (W : LogicModel) (lives : Lfts 2) (session : RefT SessionStruct) (memory : RefT (List ℕ)) (address value : ℕ) (s′ : SessionStruct) (m′ : List ℕ) (n : ℕ)
     → ent (W .𝓤) (storeClauses W lives session memory address value .ensures tt n (at-last session s′, (at-last memory m′, (address, (value, tt)))))

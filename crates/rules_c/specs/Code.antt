@@ -1,4 +1,4 @@
--- The C functions of a session: each call by what its own contract tells (capi, specs/Says.antt), read as a call and a reply.
+-- The C functions of a session: each call by what its own contract tells (capi_session, specs/Says.antt), read as a call and a reply.
 use Prim.Native.Nat.{ℕ}
 use mathlib.Core.List.{List}
 use Rattle.vmsa.specs.Words.{regimeOf}
@@ -10,7 +10,7 @@ use Rattle.session.specs.View.{regimeHeld}
 use Rattle.words.specs.declared.AccessWords.{AccessWords}
 use Rattle.words.specs.declared.AnswerWords.{AnswerWords}
 use Rattle.words.specs.Words.{accessOf}
-use Rattle.capi.specs.Says.{EmptySays, SetSays, AccessSays, StoreSays, DropSays}
+use Rattle.capi_session.specs.Says.{EmptySays, SetSays, AccessSays, StoreSays, DropSays}
 use Rattle.calls.specs.Chains.{Event, Chain}
 use Rattle.calls.specs.Rule1.{Rule1Call, Rule1List}
 use Rattle.rule3.specs.Code.{Rule3From}
@@ -33,7 +33,7 @@ Rule1OfCallC = (s : SessionStruct) (m : List ℕ) (c : Call) (x : Handed Session
 abbrev pub Rule1OfC : Type 1
 Rule1OfC = (s₀ : SessionStruct) (m₀ : List ℕ) (s : SessionStruct) (m : List ℕ) (past : List Event) → Chain MadeC s₀ m₀ s m past → Rule1List regimeHeld MadeC s₀ m₀ s m past
 
--- ---- rule 3: every list of calls, from vmsa_session_empty()
+-- ---- rule 3: every list of calls, from the session that vmsa_session_empty left
 
 abbrev pub Rule3OfC : Type 0
 Rule3OfC = (s₀ : SessionStruct) → EmptySays s₀ → Rule3From MadeC s₀

@@ -1,3 +1,4 @@
 pub mod Readings
 pub mod Code
 pub mod RulesC
+pub mod Spare

@@ -32,7 +32,8 @@ use Rattle.session.specs.View.{regimeHeld}
 use Rattle.words.specs.declared.AccessWords.{AccessWords}
 use Rattle.words.specs.declared.AnswerWords.{AnswerWords}
 use Rattle.words.specs.Words.{accessOf, countedWords}
-use Rattle.capi.specs.Says.{EmptySays, WalkSays, AccessSays}
+use Rattle.capi_walk.specs.Says.{WalkSays}
+use Rattle.capi_session.specs.Says.{EmptySays, AccessSays}
 use Rattle.calls.specs.Chains.{Event, Chain}
 use Rattle.calls.specs.Rule1.{rowsOf, InPool, Same}
 use Rattle.rule3.specs.Events.{lastRegime, settled, Moment, counted, anyCount, latest}
@@ -128,7 +129,7 @@ module _ (past : List Event) (m : List ℕ) (g : RegimeWords) (n : List ℕ) (a 
     -- vmsa_walk of a read, fetch or probe never makes a dirty mark: for them `held` gives the one answer, and no byte changes
     pub quiet : writes (accessOf a .kind) ≡ false → (h : RegimeWords) (k : List ℕ) (x : AnswerWords) (l : List ℕ) → WalkSays k h a l x → x .dirtied ≡ 0
 
--- every list of calls of the C functions, from vmsa_session_empty() over a memory of any length and bytes; and an access after it: before
+-- every list of calls of the C functions, from the session that vmsa_session_empty left and over a memory of any length and bytes; and an access after it: before
 -- any accepted regime it is refused with 9, and after one it keeps the rules above, over any bytes of the same length
 abbrev pub EarlyOfC : Type 0
 EarlyOfC = (s₀ : SessionStruct) → EmptySays s₀ → (m₀ : List ℕ) → Bytes m₀ → (s : SessionStruct) (m : List ℕ) (past : List Event) → Chain MadeC s₀ m₀ s m past

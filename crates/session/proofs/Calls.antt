@@ -34,8 +34,8 @@ use Rattle.tlb.proofs.Walking.{first-append, put-is}
 use Rattle.tlb.proofs.Access.{keptIn, accessed-view, AnAnswer, answer-in, hit-is-access}
 use Rattle.session.specs.declared.Session.{Session as SessionStruct}
 use Rattle.session.specs.Model.{Session, Handed, handed, Stepped, keep, setBy, setCall, learn, accessWith, accessCall, storeBy, storeIn, Call, setRegime, access, store, dropAll, call}
-use Rattle.session.specs.View.{sessionView, viewed, setTo, setAfter, entryIn, withEntry, accessedSession, leaves}
-use Rattle.session.proofs.Lists.{set-same, map-set}
+use Rattle.session.specs.View.{sessionView, viewed, setTo, setAfter, entryIn, withEntry, withEntries, accessedSession, leaves}
+use Rattle.descriptor.proofs.Lists.{set-same, map-set}
 
 -- ---- a set regime
 
@@ -153,7 +153,7 @@ module _ (s : SessionStruct) (m : List ℕ) (a : Access) where
 
   -- an entry put where it lies already
   with-same : withEntry s (entryFor a) (entryIn s a) ≡ s
-  with-same = ap (λ (l : List EntryStruct). let t : SessionStruct = record { regime = s .regime; entries = l; set = s .set } in t) (set-same (s .entries) (entryFor a) noEntry)
+  with-same = ap (withEntries s) (set-same (s .entries) (entryFor a) noEntry)
 
   -- where nothing is kept, the session stays as it was
   pub unkept-same : given .kept ≡ none → accessedSession s m a ≡ s

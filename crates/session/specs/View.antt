@@ -32,13 +32,24 @@ viewed x = handed (sessionView (x .session)) (x .memory) (x .reply)
 
 -- ---- the session that a call leaves, each number of it
 
+abbrev pub emptyEntries : List EntryStruct
+emptyEntries = replicate entryCount noEntry
+
+-- a session with every entry empty; spare numbers are 0
+abbrev pub bare : RegimeWords → ℕ → SessionStruct
+bare regime set = record { regime = regime; entries = emptyEntries; set = set; spare8 = 0; spare16 = 0; spare32 = 0 }
+
+-- the same session with other entries
+abbrev pub withEntries : SessionStruct → List EntryStruct → SessionStruct
+withEntries s es = record { regime = s .regime; entries = es; set = s .set; spare8 = s .spare8; spare16 = s .spare16; spare32 = s .spare32 }
+
 -- the fresh session: no regime, and every entry empty
 abbrev pub emptySession : SessionStruct
-emptySession = record { regime = regimeWords initial; entries = replicate entryCount noEntry; set = 0 }
+emptySession = bare (regimeWords initial) 0
 
 -- a set regime: refused, the session given; accepted, the regime's numbers and empty entries
 abbrev pub setTo : RegimeWords → SessionStruct
-setTo regime = record { regime = regime; entries = replicate entryCount noEntry; set = 1 }
+setTo regime = bare regime 1
 
 abbrev pub setAfter : SessionStruct → Regime → Checked → SessionStruct
 setAfter s r Accepted = setTo (regimeWords r)
@@ -49,14 +60,14 @@ abbrev pub entryIn : SessionStruct → Access → EntryStruct
 entryIn s a = getD (s .entries) (entryFor a) noEntry
 
 abbrev pub withEntry : SessionStruct → ℕ → EntryStruct → SessionStruct
-withEntry s i e = record { regime = s .regime; entries = setAt (s .entries) i e; set = s .set }
+withEntry s i e = withEntries s (setAt (s .entries) i e)
 
 abbrev pub accessedSession : SessionStruct → List ℕ → Access → SessionStruct
 accessedSession s m a = withEntry s (entryFor a) (accessedEntry (s .regime) (s .set) (entryIn s a) m a .entry)
 
 -- a drop all: every entry is the empty one
 abbrev pub emptied : SessionStruct → SessionStruct
-emptied s = record { regime = s .regime; entries = replicate entryCount noEntry; set = s .set }
+emptied s = withEntries s emptyEntries
 
 abbrev pub sessionAfter : SessionStruct → List ℕ → Call → SessionStruct
 sessionAfter s m (setRegime r) = setAfter s r (regimeCheck (length m) r)

@@ -16,12 +16,15 @@ use vmsa::Refusal;
 use vmsa::Regime;
 use vmsa::RegimeWords;
 
-// A session: the regime last accepted, where set is not 0, and the entries. All numbers, so that any bytes are a session.
+// A session: the regime last accepted, where set is not 0, and the entries. All numbers, so that any bytes are a session; the spare ones have no say.
 #[repr(C)]
 pub struct Session {
     pub regime: RegimeWords,
     pub entries: [Entry; ENTRIES],
     pub set: u8,
+    pub spare8: u8,
+    pub spare16: u16,
+    pub spare32: u32,
 }
 
 // What a set regime or a store hands back.
@@ -72,6 +75,9 @@ impl Session {
             regime: RegimeWords::of(Regime::new()),
             entries: [entry; ENTRIES],
             set: 0,
+            spare8: 0,
+            spare16: 0,
+            spare32: 0,
         }
     }
 
@@ -91,6 +97,9 @@ impl Session {
                     regime: words,
                     entries: [entry; ENTRIES],
                     set: 1,
+                    spare8: 0,
+                    spare16: 0,
+                    spare32: 0,
                 };
                 Changed {
                     session: session,

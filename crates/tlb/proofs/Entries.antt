@@ -18,7 +18,7 @@ use Rattle.tlb.specs.declared.Entry.{Entry as EntryStruct}
 use Rattle.tlb.specs.Replies.{Reply, answered, replyOf}
 use Rattle.tlb.specs.Walker.{Entry, empty, holds, heldIn, Walked, walked, accessHeld}
 use Rattle.tlb.specs.Ours.{judged, ours}
-use Rattle.tlb.specs.Entries.{entryView, answerOf, entryAnswer, hitKindIn, isHit}
+use Rattle.tlb.specs.Entries.{entryView, fullEntry, answerOf, entryAnswer, hitKindIn, isHit}
 use Rattle.tlb.proofs.Deciding.{reply-decision, kind-decision}
 
 -- ---- what an entry holds of a page
@@ -86,7 +86,7 @@ module _ (r : Regime) (m : List ℕ) (a : Access) where
       by false q = clash (cc)
 
 -- a leaf kept in an entry, in the walker's values
-pub kept-view : (page : ℕ) (leaf : Leaf) → leaf .left ≤ 3 → entryView (record { page = page; value = leaf .value; left = leaf .left; held = 1 }) ≡ holds page leaf
+pub kept-view : (page : ℕ) (leaf : Leaf) → leaf .left ≤ 3 → entryView (fullEntry page leaf) ≡ holds page leaf
 kept-view page leaf h = rw (le-leb (leaf .left) 3 h)
 
 -- ---- an entry that answers

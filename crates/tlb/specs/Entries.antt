@@ -33,9 +33,12 @@ use Rattle.tlb.specs.Ours.{ours}
 abbrev pub entryView : EntryStruct → Entry
 entryView e = pick (flag (e .held) && leb (e .left) 3) (holds (e .page) (record { value = e .value; left = e .left })) empty
 
--- the empty entry
+-- the empty entry, and one that holds a leaf of a page; spare numbers are 0
 abbrev pub noEntry : EntryStruct
-noEntry = record { page = 0; value = 0; left = 0; held = 0 }
+noEntry = record { page = 0; value = 0; left = 0; held = 0; spare16 = 0; spare32 = 0 }
+
+abbrev pub fullEntry : ℕ → Leaf → EntryStruct
+fullEntry page leaf = record { page = page; value = leaf .value; left = leaf .left; held = 1; spare16 = 0; spare32 = 0 }
 
 -- a session's regime, where it is set
 abbrev pub regimeIn : RegimeWords → ℕ → Option Regime
@@ -62,7 +65,7 @@ walkedView w memory = record { reply = replyOf (view (w .answer)); memory = memo
 -- the entry with a leaf that may be remembered of a page
 abbrev pub keptEntry : EntryStruct → ℕ → Option Leaf → EntryStruct
 keptEntry e page none = e
-keptEntry e page (some leaf) = record { page = page; value = leaf .value; left = leaf .left; held = 1 }
+keptEntry e page (some leaf) = fullEntry page leaf
 
 -- the entry, the memory, and the reply in whatever form A
 pub record Filling (A : Type 0) : Type 0 where

@@ -25,13 +25,15 @@ use walk::Kept;
 // How many entries a session has; specs/Walker.antt has the same number.
 pub const ENTRIES: usize = 64;
 
-// A TLB entry: the leaf that it holds of a page, where held is not 0. All numbers, so that any bytes are an entry.
+// A TLB entry: the leaf that it holds of a page, where held is not 0. All numbers, so that any bytes are an entry; the spare ones have no say.
 #[repr(C)]
 pub struct Entry {
     pub page: u64,
     pub value: u64,
     pub left: u8,
     pub held: u8,
+    pub spare16: u16,
+    pub spare32: u32,
 }
 
 // What an entry holds of a page.
@@ -62,6 +64,8 @@ impl Entry {
             value: 0,
             left: 0,
             held: 0,
+            spare16: 0,
+            spare32: 0,
         }
     }
 
@@ -146,6 +150,8 @@ impl Entry {
             value: leaf.value,
             left: leaf.left,
             held: 1,
+            spare16: 0,
+            spare32: 0,
         }
     }
 }

@@ -41,4 +41,5 @@ regimeWords r = record {
   ha = flagByte (r .ha);
   hd = flagByte (r .hd);
   wxn = flagByte (r .wxn);
+  spare = 0;
 }

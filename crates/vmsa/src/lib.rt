@@ -69,7 +69,7 @@ pub struct Regime {
     pub attributes: u64,
 }
 
-// A regime as numbers, for where any bytes may stand: a flag is true where its byte is not 0.
+// A regime as numbers, for where any bytes may stand: a flag is true where its byte is not 0. spare has no say, and is 0 in what we return.
 #[repr(C)]
 pub struct RegimeWords {
     pub start: usize,
@@ -86,6 +86,7 @@ pub struct RegimeWords {
     pub ha: u8,
     pub hd: u8,
     pub wxn: u8,
+    pub spare: u64,
 }
 
 pub enum AccessKind {
@@ -300,6 +301,7 @@ impl RegimeWords {
             ha: flag_byte(r.ha),
             hd: flag_byte(r.hd),
             wxn: flag_byte(r.wxn),
+            spare: 0,
         }
     }
 }

@@ -30,7 +30,7 @@ accessKind n =
 unfoldable pub accessOf : AccessWords → Access
 accessOf w = record { address = record { 0 = w .address }; size = w .size; el0 = flag (w .el0); kind = accessKind (w .kind) }
 
--- tag 0 for a success, 1 for a fault, 2 for a refusal; what an answer does not hold is 0
+-- tag 0 for a success, 1 for a fault, 2 for a refusal; what an answer does not hold is 0, and so is spare
 unfoldable pub wordsOf : Result → AnswerWords
 wordsOf (success s) = record {
   output = s .output .0;
@@ -45,6 +45,7 @@ wordsOf (success s) = record {
   dirtied = flagByte (s .dirtied);
   cacheable = flagByte (s .cacheable);
   reads = s .reads;
+  spare = 0;
 }
 wordsOf (fault f) = record {
   output = 0;
@@ -59,6 +60,7 @@ wordsOf (fault f) = record {
   dirtied = 0;
   cacheable = flagByte (f .cacheable);
   reads = f .reads;
+  spare = 0;
 }
 wordsOf (refused n) = record {
   output = 0;
@@ -73,6 +75,7 @@ wordsOf (refused n) = record {
   dirtied = 0;
   cacheable = 0;
   reads = 0;
+  spare = 0;
 }
 
 -- the same with another count of reads
@@ -90,6 +93,7 @@ countedWords n w = record {
   dirtied = w .dirtied;
   cacheable = w .cacheable;
   reads = n;
+  spare = w .spare;
 }
 
 -- ---- the walk, and the session's calls

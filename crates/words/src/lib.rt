@@ -22,16 +22,18 @@ use vmsa::RegimeWords;
 use vmsa::Success;
 use vmsa::VirtAddr;
 
-// An access. kind: 0 read, 1 write, 2 update, 3 fetch, 4 probe-read, 5 probe-write; a number above is taken as an update.
+// An access. kind: 0 read, 1 write, 2 update, 3 fetch, 4 probe-read, 5 probe-write; a number above is taken as an update. The spare numbers have no say.
 #[repr(C)]
 pub struct AccessWords {
     pub address: u64,
     pub size: u64,
     pub el0: u8,
     pub kind: u8,
+    pub spare16: u16,
+    pub spare32: u32,
 }
 
-// An answer. tag: 0 success, 1 fault, 2 refused; what an answer does not hold is 0.
+// An answer. tag: 0 success, 1 fault, 2 refused; what an answer does not hold is 0, and so is spare.
 #[repr(C)]
 pub struct AnswerWords {
     pub output: u64,
@@ -46,6 +48,7 @@ pub struct AnswerWords {
     pub dirtied: u8,
     pub cacheable: u8,
     pub reads: u8,
+    pub spare: u32,
 }
 
 // A regime to be set: 0 or the number of its refusal, and the regime as a session holds it.
@@ -118,6 +121,7 @@ fn success_words(s: Success) -> AnswerWords
         dirtied: vmsa::flag_byte(s.dirtied),
         cacheable: vmsa::flag_byte(s.cacheable),
         reads: s.reads,
+        spare: 0,
     }
 }
 
@@ -137,6 +141,7 @@ fn fault_words(f: Fault) -> AnswerWords
         dirtied: 0,
         cacheable: vmsa::flag_byte(f.cacheable),
         reads: f.reads,
+        spare: 0,
     }
 }
 
@@ -156,6 +161,7 @@ fn refusal_words(x: Refusal) -> AnswerWords
         dirtied: 0,
         cacheable: 0,
         reads: 0,
+        spare: 0,
     }
 }
 
@@ -223,6 +229,7 @@ fn no_answer() -> AnswerWords
         dirtied: 0,
         cacheable: 0,
         reads: 0,
+        spare: 0,
     }
 }
 

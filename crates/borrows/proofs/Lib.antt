@@ -1,0 +1,6 @@
+pub mod Walks
+pub mod Mutable
+pub mod Shared
+pub mod Element
+pub mod Calls
+pub mod Locals

@@ -1,4 +1,0 @@
-pub mod Lent
-pub mod Element
-pub mod Shared
-pub mod Promises

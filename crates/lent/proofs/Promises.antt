@@ -1,0 +1,67 @@
+-- What each function promises, from its own contract: `..-tells`, that its ensures clause says what specs/Says.antt has, at every model of the
+-- logic; `..-free`, that its requires clause asks nothing. A contract that says less breaks a law here. (The functions are proved by hand, so
+-- there is no `Learnt` to name, as there is for those by value.)
+use Prim.Native.Nat.{ℕ}
+use mathlib.Core.List.{List}
+use base.Logic.{ent, emp, id⊢}
+use contract.Lifetimes.{Lfts}
+use contract.Monad.{fact}
+use denote.Ref.{RefT, at-last}
+use denote.Triple.Clauses.{ClausesAt}
+use borrow.Fn.World.{World as LogicModel}
+use Rattle.vmsa.specs.declared.Regime.{Regime}
+use Rattle.vmsa.specs.declared.Access.{Access}
+use Rattle.vmsa.specs.declared.Answer.{Answer}
+use Rattle.vmsa.specs.declared.PhysAddr.{PhysAddr}
+use Rattle.checks.specs.declared.Checked.{Checked}
+use Rattle.session.specs.declared.Session.{Session as SessionStruct}
+use Rattle.lent.specs.Says.{SetSays, AccessSays, StoreSays, DropSays}
+use Rattle.lent.proofs.set_regime as SetRegime
+use Rattle.lent.proofs.access as AccessOf
+use Rattle.lent.proofs.store as Store
+use Rattle.lent.proofs.invalidate_all as InvalidateAll
+
+module _ (W : LogicModel) (lives : Lfts 2) (session : RefT SessionStruct) (memory : RefT (List ℕ)) where
+  module _ (r : Regime) where
+    abbrev pub setClauses : ClausesAt (W .𝓤) SetRegime.ended lives
+    setClauses = SetRegime.clauses (W .𝓤) (W .H) (W .𝓖 .A) (W .𝓜 .mem) (W .𝓡 .run) lives (session, (memory, (r, tt)))
+
+    pub set-tells : (session′ : SessionStruct) (memory′ : List ℕ) (x : Checked)
+        → ent (W .𝓤) (setClauses .ensures tt x (at-last session session′, (at-last memory memory′, (r, tt)))) (fact (W .𝓤) (SetSays (session .now) (memory .now) r session′ memory′ x))
+    set-tells session′ memory′ x = id⊢ (W .𝓤) _
+
+    pub set-free : ent (W .𝓤) (emp (W .𝓤)) (setClauses .requires tt)
+    set-free = id⊢ (W .𝓤) _
+
+  module _ (a : Access) where
+    abbrev pub accessClauses : ClausesAt (W .𝓤) AccessOf.ended lives
+    accessClauses = AccessOf.clauses (W .𝓤) (W .H) (W .𝓖 .A) (W .𝓜 .mem) (W .𝓡 .run) lives (session, (memory, (a, tt)))
+
+    pub access-tells : (session′ : SessionStruct) (memory′ : List ℕ) (x : Answer)
+        → ent (W .𝓤) (accessClauses .ensures tt x (at-last session session′, (at-last memory memory′, (a, tt)))) (fact (W .𝓤) (AccessSays (session .now) (memory .now) a session′ memory′ x))
+    access-tells session′ memory′ x = id⊢ (W .𝓤) _
+
+    pub access-free : ent (W .𝓤) (emp (W .𝓤)) (accessClauses .requires tt)
+    access-free = id⊢ (W .𝓤) _
+
+  module _ (address : PhysAddr) (value : ℕ) where
+    abbrev pub storeClauses : ClausesAt (W .𝓤) Store.ended lives
+    storeClauses = Store.clauses (W .𝓤) (W .H) (W .𝓖 .A) (W .𝓜 .mem) (W .𝓡 .run) lives (session, (memory, (address, (value, tt))))
+
+    pub store-tells : (session′ : SessionStruct) (memory′ : List ℕ) (x : Checked)
+        → ent (W .𝓤) (storeClauses .ensures tt x (at-last session session′, (at-last memory memory′, (address, (value, tt))))) (fact (W .𝓤) (StoreSays (session .now) (memory .now) address value session′ memory′ x))
+    store-tells session′ memory′ x = id⊢ (W .𝓤) _
+
+    pub store-free : ent (W .𝓤) (emp (W .𝓤)) (storeClauses .requires tt)
+    store-free = id⊢ (W .𝓤) _
+
+module _ (W : LogicModel) (lives : Lfts 1) (session : RefT SessionStruct) where
+  abbrev pub dropClauses : ClausesAt (W .𝓤) InvalidateAll.ended lives
+  dropClauses = InvalidateAll.clauses (W .𝓤) (W .H) (W .𝓖 .A) (W .𝓜 .mem) (W .𝓡 .run) lives (session, tt)
+
+  pub drop-tells : (session′ : SessionStruct)
+      → ent (W .𝓤) (dropClauses .ensures tt tt (at-last session session′, tt)) (fact (W .𝓤) (DropSays (session .now) session′))
+  drop-tells session′ = id⊢ (W .𝓤) _
+
+  pub drop-free : ent (W .𝓤) (emp (W .𝓤)) (dropClauses .requires tt)
+  drop-free = id⊢ (W .𝓤) _

@@ -1,0 +1,161 @@
+-- Spare numbers have no say, and are 0 in what is returned.
+use Prim.Native.Nat.{ℕ, zero, suc}
+use mathlib.Core.List.{List, [], _∷_, map}
+use mathlib.Core.Option.{Option, none, some}
+use mathlib.Core.Path.{_≡_, refl, sym, ap, ap₂, subst, _∙_}
+use lib.ListN.{length, getD, set as setAt, replicate}
+use Rattle.descriptor.specs.Bits.{pick}
+use Rattle.descriptor.proofs.Lists.{map-set}
+use Rattle.vmsa.specs.Settings.{initial}
+use Rattle.vmsa.specs.Words.{flag, regimeOf, regimeWords}
+use Rattle.vmsa.specs.Answers.{Result, success, fault, refused as refusedWith}
+use Rattle.vmsa.specs.declared.Regime.{Regime}
+use Rattle.vmsa.specs.declared.RegimeWords.{RegimeWords}
+use Rattle.vmsa.specs.declared.Access.{Access}
+use Rattle.vmsa.specs.declared.Leaf.{Leaf}
+use Rattle.checks.specs.declared.Checked.{Checked}
+use Rattle.checks.specs.declared.Checked.the-variants.{Accepted, Refused}
+use Rattle.checks.specs.Order.{regimeCheck}
+use Rattle.walk.specs.Walk.{walk}
+use Rattle.tlb.specs.declared.Entry.{Entry as EntryStruct}
+use Rattle.tlb.specs.Replies.{Reply, done, refused, answered, Told}
+use Rattle.tlb.specs.Walker.{Entry, entryCount, accessIn}
+use Rattle.tlb.specs.Ours.{ours}
+use Rattle.tlb.specs.Entries.{entryView, noEntry, regimeIn, pageFor, entryFor, keptEntry, accessedEntry}
+use Rattle.session.specs.declared.Session.{Session as SessionStruct}
+use Rattle.session.specs.Model.{Session, Handed, handed, Call, setRegime, access, store, dropAll, call}
+use Rattle.session.specs.View.{sessionView, emptyEntries, emptySession, setTo, setAfter, entryIn, withEntries, sessionAfter, leaves}
+use Rattle.words.specs.declared.AccessWords.{AccessWords}
+use Rattle.words.specs.declared.AnswerWords.{AnswerWords}
+use Rattle.words.specs.Words.{accessOf, wordsOf, walkWords, refusalByte, replyWords, replied}
+use Rattle.capi_walk.specs.Says.{WalkSays}
+use Rattle.capi_session.specs.Says.{EmptySays, SetSays, AccessSays}
+use Rattle.calls.specs.Chains.{Event, Chain, none-yet, more}
+use Rattle.rules_c.specs.Code.{MadeC}
+use Rattle.rules_c.specs.Spare.{regimeSpare0, accessSpare0, entrySpare0, sessionSpare0, SpareOfC}
+use Rattle.rules_c.proofs.Chains.{made-is}
+
+-- ---- what is read of a struct
+
+regime-read : (g : RegimeWords) → regimeOf (regimeSpare0 g) ≡ regimeOf g
+unfolding regimeOf
+regime-read g = refl
+
+regimes-read : (g h : RegimeWords) → regimeSpare0 g ≡ regimeSpare0 h → regimeOf g ≡ regimeOf h
+regimes-read g h e = sym (regime-read g) ∙ ap regimeOf e ∙ regime-read h
+
+access-read : (a : AccessWords) → accessOf (accessSpare0 a) ≡ accessOf a
+unfolding accessOf
+access-read a = refl
+
+accesses-read : (a b : AccessWords) → accessSpare0 a ≡ accessSpare0 b → accessOf a ≡ accessOf b
+accesses-read a b e = sym (access-read a) ∙ ap accessOf e ∙ access-read b
+
+entries-read : (es : List EntryStruct) → map entryView (map entrySpare0 es) ≡ map entryView es
+entries-read [] = refl
+entries-read (e ∷ es) = ap (λ (t : List Entry). entryView e ∷ t) (entries-read es)
+
+regime-in : (g : RegimeWords) (n : ℕ) → regimeIn (regimeSpare0 g) n ≡ regimeIn g n
+regime-in g n = ap (λ (r : Regime). pick (flag n) (some r) none) (regime-read g)
+
+session-read : (s : SessionStruct) → sessionView (sessionSpare0 s) ≡ sessionView s
+session-read s i = record { regime = regime-in (s .regime) (s .set) i; entries = entries-read (s .entries) i }
+
+-- ---- what a call leaves of a session
+
+same-entries : (n : ℕ) → map entrySpare0 (replicate n noEntry) ≡ replicate n noEntry
+same-entries zero = refl
+same-entries (suc n) = ap (λ (t : List EntryStruct). noEntry ∷ t) (same-entries n)
+
+entry-at : (es : List EntryStruct) (i : ℕ) → getD (map entrySpare0 es) i noEntry ≡ entrySpare0 (getD es i noEntry)
+entry-at [] i = refl
+entry-at (e ∷ es) zero = refl
+entry-at (e ∷ es) (suc i) = entry-at es i
+
+kept : (e : EntryStruct) (page : ℕ) (o : Option Leaf) → keptEntry (entrySpare0 e) page o ≡ entrySpare0 (keptEntry e page o)
+kept e page none = refl
+kept e page (some leaf) = refl
+
+accessed-entry : (g : RegimeWords) (n : ℕ) (e : EntryStruct) (m : List ℕ) (a : Access) → accessedEntry (regimeSpare0 g) n (entrySpare0 e) m a .entry ≡ entrySpare0 (accessedEntry g n e m a .entry)
+accessed-entry g n e m a =
+    kept e (pageFor a) (accessIn ours (regimeIn (regimeSpare0 g) n) m a (entryView e) .kept)
+    ∙ ap (λ (r : Option Regime). entrySpare0 (keptEntry e (pageFor a) (accessIn ours r m a (entryView e) .kept))) (regime-in g n)
+
+-- sessions alike in all but their entries
+with-entries : (s : SessionStruct) (es fs : List EntryStruct) → es ≡ map entrySpare0 fs → withEntries (sessionSpare0 s) es ≡ sessionSpare0 (withEntries s fs)
+with-entries s es fs e = ap (withEntries (sessionSpare0 s)) e
+
+regime-words : (r : Regime) → regimeWords r ≡ regimeSpare0 (regimeWords r)
+unfolding regimeWords
+regime-words r = refl
+
+set-to : (r : Regime) → setTo (regimeWords r) ≡ sessionSpare0 (setTo (regimeWords r))
+set-to r i = record { regime = regime-words r i; entries = sym (same-entries entryCount) i; set = 1; spare8 = 0; spare16 = 0; spare32 = 0 }
+
+after : (s : SessionStruct) (m : List ℕ) (c : Call) → sessionAfter (sessionSpare0 s) m c ≡ sessionSpare0 (sessionAfter s m c)
+after s m (setRegime r) = by (regimeCheck (length m) r)
+  where
+    by : (x : Checked) → setAfter (sessionSpare0 s) r x ≡ sessionSpare0 (setAfter s r x)
+    by Accepted = set-to r
+    by (Refused x) = refl
+after s m (access a) =
+    with-entries s _ (setAt (s .entries) (entryFor a) (accessedEntry (s .regime) (s .set) (entryIn s a) m a .entry))
+    (ap (λ (e : EntryStruct). setAt (map entrySpare0 (s .entries)) (entryFor a) (accessedEntry (regimeSpare0 (s .regime)) (s .set) e m a .entry)) (entry-at (s .entries) (entryFor a))
+    ∙ ap (setAt (map entrySpare0 (s .entries)) (entryFor a)) (accessed-entry (s .regime) (s .set) (entryIn s a) m a)
+    ∙ sym (map-set entrySpare0 (s .entries) (entryFor a) (accessedEntry (s .regime) (s .set) (entryIn s a) m a .entry)))
+after s m (store address value) = refl
+after s m dropAll = with-entries s emptyEntries emptyEntries (sym (same-entries entryCount))
+
+-- in all that a call leaves: of the session, with its spare numbers put to 0; of memory and reply, the same
+abbrev spareless : Handed SessionStruct Reply → Handed SessionStruct Reply
+spareless x = handed (sessionSpare0 (x .session)) (x .memory) (x .reply)
+
+leaves-spareless : (s : SessionStruct) (m : List ℕ) (c : Call) → leaves (sessionSpare0 s) m c ≡ spareless (leaves s m c)
+leaves-spareless s m c =
+    ap (λ (t : Session). handed (sessionAfter (sessionSpare0 s) m c) (call ours t m c .memory) (call ours t m c .reply)) (session-read s)
+    ∙ ap (λ (t : SessionStruct). handed t (leaves s m c .memory) (leaves s m c .reply)) (after s m c)
+
+sessions : (s t : SessionStruct) → sessionSpare0 s ≡ sessionSpare0 t → (m : List ℕ) (c : Call) → spareless (leaves s m c) ≡ spareless (leaves t m c)
+sessions s t e m c = sym (leaves-spareless s m c) ∙ ap (λ (u : SessionStruct). leaves u m c) e ∙ leaves-spareless t m c
+
+-- ---- answers
+
+words-zero : (o : Result) → wordsOf o .spare ≡ 0
+unfolding wordsOf
+words-zero (success s) = refl
+words-zero (fault f) = refl
+words-zero (refusedWith n) = refl
+
+reply-zero : (x : Reply) → replyWords x .spare ≡ 0
+reply-zero done = words-zero (refusedWith 0)
+reply-zero (refused n) = words-zero (refusedWith n)
+reply-zero (answered o n) = words-zero o
+
+-- ---- every list
+
+fresh : emptySession ≡ sessionSpare0 emptySession
+fresh i = record { regime = regime-words initial i; entries = sym (same-entries entryCount) i; set = 0; spare8 = 0; spare16 = 0; spare32 = 0 }
+
+list-zero : (s₀ : SessionStruct) → EmptySays s₀ → (m₀ : List ℕ) {s : SessionStruct} {m : List ℕ} {past : List Event} → Chain MadeC s₀ m₀ s m past → s ≡ sessionSpare0 s
+list-zero s₀ h m₀ none-yet = h ∙ fresh ∙ sym (ap sessionSpare0 h)
+list-zero s₀ h m₀ (more {s = s} {m = m} {c = c} {x = x} before made) =
+    let e = ap (λ (t : Handed SessionStruct Reply). t .session) (made-is made) in
+    e ∙ ap (λ (t : SessionStruct). sessionAfter t m c) (list-zero s₀ h m₀ before) ∙ after s m c ∙ sym (ap sessionSpare0 e)
+
+-- ---- together
+
+handed-parts : {A : Type 0} (x y : Handed SessionStruct A) → x ≡ y → (x .session ≡ y .session) × (x .memory ≡ y .memory) × (x .reply ≡ y .reply)
+handed-parts x y e = (ap (λ (t : Handed SessionStruct _). t .session) e, ap (λ (t : Handed SessionStruct _). t .memory) e, ap (λ (t : Handed SessionStruct _). t .reply) e)
+
+pub spare-of-c : SpareOfC
+spare-of-c = record {
+  walk = λ m g h a b eg ea m′ n′ w x p q.
+      let e = p ∙ ap₂ (λ (r : Regime) (v : Access). walkWords r v m) (regimes-read g h eg) (accesses-read a b ea) ∙ sym q in
+      (ap (λ (t : Told AnswerWords). t .reply) e, ap (λ (t : Told AnswerWords). t .memory) e);
+  set = λ s m g h e s′ t′ m′ n′ k l p q. handed-parts (handed s′ m′ k) (handed t′ n′ l) (p ∙ ap (λ (r : Regime). replied refusalByte (leaves s m (setRegime r))) (regimes-read g h e) ∙ sym q);
+  access = λ s m a b e s′ t′ m′ n′ w x p q. handed-parts (handed s′ m′ w) (handed t′ n′ x) (p ∙ ap (λ (v : Access). replied replyWords (leaves s m (access v))) (accesses-read a b e) ∙ sym q);
+  session = λ s t e m c x y p q. handed-parts (spareless x) (spareless y) (ap spareless (made-is p) ∙ sessions s t e m c ∙ sym (ap spareless (made-is q)));
+  walked = λ m g a m′ w p. ap (λ (t : Told AnswerWords). t .reply .spare) p ∙ words-zero (walk (regimeOf g) (accessOf a) m .result);
+  accessed = λ s m a s′ m′ w p. ap (λ (t : Handed SessionStruct AnswerWords). t .reply .spare) p ∙ reply-zero (leaves s m (access (accessOf a)) .reply);
+  lists = λ s₀ h m₀ s m past chain. list-zero s₀ h m₀ chain;
+}
