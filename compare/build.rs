@@ -1,6 +1,6 @@
-//! Links `libcapi.a` into the binary. It is looked for in the folder named
+//! Links `libvmsa.a` into the binary. It is looked for in the folder named
 //! by `VMSA_LIB` (taken from this package's folder if relative), or else in
-//! `../target/staticlib`.
+//! `../target/lib/ARCH`.
 //!
 //! The archive goes to the binary alone: a `rustc-link-lib` line would hand
 //! it to the lib target too, and then the tests could not be built without
@@ -13,8 +13,9 @@ use std::path::Path;
 
 fn main() {
     let package = env::var("CARGO_MANIFEST_DIR").expect("cargo names the package's folder");
-    let folder = env::var("VMSA_LIB").unwrap_or_else(|_| "../target/staticlib".to_string());
-    let archive = Path::new(&package).join(folder).join("libcapi.a");
+    let arch = env::var("CARGO_CFG_TARGET_ARCH").expect("cargo names the architecture");
+    let folder = env::var("VMSA_LIB").unwrap_or_else(|_| format!("../target/lib/{arch}"));
+    let archive = Path::new(&package).join(folder).join("libvmsa.a");
 
     println!("cargo:rustc-link-arg-bins={}", archive.display());
     if env::var("CARGO_CFG_TARGET_OS").is_ok_and(|system| system == "linux") {

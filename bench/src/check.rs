@@ -28,10 +28,16 @@ impl Random {
         self.below(16) == 0
     }
 
+    /// Bytes that neither side is to look at.
+    fn spare<const N: usize>(&mut self) -> [u8; N] {
+        std::array::from_fn(|_| self.next() as u8)
+    }
+
     fn regime(&mut self) -> Regime {
         let flags = self.next();
         let flag = |bit: u32| (flags >> bit & 1) as u8;
         let mut regime = kernels::regime();
+        regime.spare = self.spare();
         regime.ha = flag(0);
         regime.hd = flag(1);
         regime.wxn = flag(2);
@@ -81,6 +87,7 @@ impl Random {
             size,
             el0: self.below(3) as u8,
             kind,
+            spare: self.spare(),
         }
     }
 

@@ -121,6 +121,7 @@ pub fn regime() -> Regime {
         ha: 1,
         hd: 1,
         wxn: 0,
+        spare: [0; 8],
     }
 }
 
@@ -270,7 +271,8 @@ impl Bed {
 /// The checksum takes in the output, the tag and the reads of each answer;
 /// the other fields are compared in `check`, where no time is taken.
 ///
-/// Each access is filled in right before its call, as a device would.
+/// Each access is filled in right before its call, as a device would; its
+/// spare bytes once.
 ///
 /// Neither byte goes to the top of the sum: there the compiler would take it
 /// out of a wider load, which would wait for the byte stores of the call.
@@ -282,13 +284,18 @@ fn answers(
     mut call: impl FnMut(&Access) -> Answer,
 ) -> u64 {
     let mut sum = 0u64;
+    let mut access = Access {
+        address: 0,
+        size: 0,
+        el0: 0,
+        kind: 0,
+        spare: [0; 6],
+    };
     for i in 0..calls {
-        let access = Access {
-            address: addresses[i as usize % PERIOD],
-            size: black_box(4),
-            el0: black_box(1),
-            kind: black_box(kind),
-        };
+        access.address = addresses[i as usize % PERIOD];
+        access.size = black_box(4);
+        access.el0 = black_box(1);
+        access.kind = black_box(kind);
         let answer = call(black_box(&access));
         let rest = u64::from(answer.tag) << 8 | u64::from(answer.reads);
         sum = sum.rotate_left(5) ^ answer.output ^ rest << 40;

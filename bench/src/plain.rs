@@ -247,6 +247,7 @@ impl Leaf {
             dirtied: u8::from(dirtied),
             cacheable: u8::from(is(AF) || accessed),
             reads,
+            spare: [0; 4],
         }
     }
 

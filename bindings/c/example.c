@@ -33,90 +33,129 @@ static uint64_t get(uint64_t address)
     return value;
 }
 
-static void print(const char *what, struct vmsa_answer answer)
+static void print_answer(const char *what, const struct vmsa_answer *answer)
 {
     printf("%-26s ", what);
-    switch (answer.tag) {
+    switch (answer->tag) {
     case VMSA_SUCCESS:
         printf("0x%08" PRIx64 ", level %d, attribute 0x%02x%s%s, %d reads\n",
-               answer.output, answer.level, (unsigned)answer.attribute,
-               answer.accessed ? ", AF set" : "",
-               answer.dirtied ? ", marked dirty" : "", answer.reads);
+               answer->output, answer->level, (unsigned)answer->attribute,
+               answer->accessed ? ", AF set" : "",
+               answer->dirtied ? ", marked dirty" : "", answer->reads);
         break;
     case VMSA_FAULT:
-        printf("fault %d, level %d, %d reads\n", answer.code, answer.level,
-               answer.reads);
+        printf("fault %d: %s, %d reads\n", answer->code,
+               vmsa_fault_text(answer->code), answer->reads);
         break;
     default:
-        printf("refused with %d\n", answer.refusal);
+        printf("refused with %d: %s\n", answer->refusal,
+               vmsa_refusal_text(answer->refusal));
     }
 }
 
-int main(void)
+static void print_reply(const char *what, unsigned refusal)
 {
-    struct vmsa_regime regime = {0};
-    struct vmsa_access access = {0};
-    struct vmsa_session session = vmsa_session_empty();
+    printf("%-26s %u: %s\n", what, refusal, vmsa_refusal_text(refusal));
+}
 
-    if (vmsa_version() != VMSA_VERSION) {
-        fputs("the library has another version\n", stderr);
-        return 1;
-    }
-
+static void build_tables(void)
+{
     put(0x40000000, 0x40001003); /* level 0: a table */
     put(0x40001000, 0x40002003); /* level 1: a table */
     put(0x40002010, 0x40003003); /* level 2: a table */
     /* level 3: a writable-clean page, its Access flag clear */
     put(LEAF, UINT64_C(0x00080000800053C3));
+}
+
+static struct vmsa_regime build_regime(void)
+{
+    struct vmsa_regime regime = VMSA_REGIME_INIT;
 
     regime.length = sizeof memory;
     regime.address = POOL;
     regime.root0 = POOL;
-    regime.tsz0 = 16;
-    regime.tsz1 = 16;
-    regime.disabled1 = 1;
-    regime.output = 5;
+    regime.disabled0 = 0;
     regime.ha = 1;
     regime.hd = 1;
     regime.attributes = UINT64_MAX;
+    return regime;
+}
 
-    access.address = 0x403ABC;
+/* An access of four bytes from EL0. */
+static struct vmsa_access four_bytes(uint8_t kind, uint64_t address)
+{
+    struct vmsa_access access = { 0 };
+
+    access.address = address;
     access.size = 4;
     access.el0 = 1;
-    access.kind = VMSA_READ;
+    access.kind = kind;
+    return access;
+}
 
+static void walk(const char *what, const struct vmsa_regime *regime,
+                 struct vmsa_access access)
+{
+    struct vmsa_answer answer;
+
+    vmsa_walk(memory, sizeof memory, regime, &access, &answer);
+    print_answer(what, &answer);
+}
+
+static void write_page(const char *what, struct vmsa_session *session)
+{
+    struct vmsa_access access = four_bytes(VMSA_WRITE, 0x403ABC);
+    struct vmsa_answer answer;
+
+    vmsa_session_access(session, memory, sizeof memory, &access, &answer);
+    print_answer(what, &answer);
+}
+
+static void plain_walks(const struct vmsa_regime *regime)
+{
     puts("plain walks");
-    print("read", vmsa_walk(memory, sizeof memory, &regime, &access));
-    access.kind = VMSA_WRITE;
-    print("write", vmsa_walk(memory, sizeof memory, &regime, &access));
-    access.address = 0x404ABC;
-    print("write, next page", vmsa_walk(memory, sizeof memory, &regime, &access));
-    access.address = 0x403FFD;
-    print("write across two pages",
-          vmsa_walk(memory, sizeof memory, &regime, &access));
+    walk("read", regime, four_bytes(VMSA_READ, 0x403ABC));
+    walk("write", regime, four_bytes(VMSA_WRITE, 0x403ABC));
+    walk("write, next page", regime, four_bytes(VMSA_WRITE, 0x404ABC));
+    walk("write across two pages", regime, four_bytes(VMSA_WRITE, 0x403FFD));
     printf("leaf 0x%016" PRIx64 "\n", get(LEAF));
+}
+
+static void a_session(const struct vmsa_regime *regime)
+{
+    struct vmsa_session session;
 
     puts("session");
-    access.address = 0x403ABC;
-    print("write, no regime",
-          vmsa_session_access(&session, memory, sizeof memory, &access));
-    printf("set regime                 %d\n",
-           vmsa_session_set_regime(&session, memory, sizeof memory, &regime));
-    print("write",
-          vmsa_session_access(&session, memory, sizeof memory, &access));
-    print("write again",
-          vmsa_session_access(&session, memory, sizeof memory, &access));
+    vmsa_session_empty(&session);
+    write_page("write, no regime", &session);
+    print_reply("set regime",
+                vmsa_session_set_regime(&session, memory, sizeof memory,
+                                        regime));
+    write_page("write", &session);
+    write_page("write again", &session);
 
     /* Page copied: make it writable-clean again, and drop what is held. */
-    printf("store                      %d\n",
-           vmsa_session_store(&session, memory, sizeof memory, LEAF,
-                              get(LEAF) | AP2));
+    print_reply("store",
+                vmsa_session_store(&session, memory, sizeof memory, LEAF,
+                                   get(LEAF) | AP2));
     vmsa_session_invalidate_all(&session);
-    print("write, re-armed",
-          vmsa_session_access(&session, memory, sizeof memory, &access));
-    printf("store past the pool        %d\n",
-           vmsa_session_store(&session, memory, sizeof memory,
-                              POOL + VMSA_POOL_LIMIT, 0));
+    write_page("write, re-armed", &session);
+    print_reply("store past the pool",
+                vmsa_session_store(&session, memory, sizeof memory,
+                                   POOL + VMSA_POOL_LIMIT, 0));
     printf("leaf 0x%016" PRIx64 "\n", get(LEAF));
+}
+
+int main(void)
+{
+    const struct vmsa_regime regime = build_regime();
+
+    if (vmsa_version() != VMSA_VERSION) {
+        fputs("the library has another version\n", stderr);
+        return 1;
+    }
+    build_tables();
+    plain_walks(&regime);
+    a_session(&regime);
     return 0;
 }

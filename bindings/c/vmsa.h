@@ -4,17 +4,47 @@
  *
  * The caller lends a memory of at most VMSA_MEMORY_LIMIT bytes. The guest's
  * table pool is a part of it; no byte outside the pool is changed or has a
- * say in any answer. Link with libcapi.a; a 64-bit, little-endian host.
+ * say in any answer. Link with libvmsa.a; a 64-bit, little-endian host.
  *
  * No value needs checking before a call: every field may have any value, a
  * flag is true where its byte is not 0, and the memory pointer may be null
  * where the length is 0. A call that makes no sense is refused with a number
  * (enum vmsa_refusal) and changes neither memory nor session.
  *
- * Two things are out of contract: a bad pointer (null for a struct, or one
- * that does not name a whole struct or length bytes), and two pointers of one
- * call that overlap. No function keeps a pointer. Two threads may call at the
- * same time unless they share a memory or a session.
+ * Out of contract
+ *
+ * Three things: a bad pointer (null for a struct, or one that does not name a
+ * whole struct or length bytes), two pointers of one call that overlap, and a
+ * write by anyone else to what is lent, while the call runs. No function keeps
+ * a pointer.
+ *
+ * What is returned
+ *
+ * An answer, and the session given to vmsa_session_empty, are only written:
+ * every byte, whatever stood there, so they need not be initialised.
+ *
+ * No struct has padding; bytes without a use are named spare. In what you pass
+ * they may have any value, and have no say. In what is returned they are 0, so
+ * answers, and sessions that began with vmsa_session_empty, may be compared
+ * with memcmp.
+ *
+ * Threads
+ *
+ * While a call runs, the lent memory must not be written by anyone, a running
+ * vCPU included. The marks (Access flag, dirty) are plain stores and not
+ * compare-and-swap: what a vCPU writes to the descriptor in between is lost.
+ * So a monitor does one of two things:
+ *   - It stops the vCPUs for the call.
+ *   - It lends a copy of the pool, made by aligned loads of 8 bytes. A success
+ *     changes at most one descriptor of the copy; before it uses the answer,
+ *     the monitor puts that change into the guest's table, by compare-and-swap
+ *     with the old value. Where that fails the session, if one was used, holds
+ *     a mark that was not made: empty it (vmsa_session_invalidate_all), take a
+ *     new copy and call again.
+ * A stepwise walk that hands out the expected and the new value is planned.
+ *
+ * Two threads may call at the same time unless they share a memory, a session
+ * or an answer.
  */
 #ifndef VMSA_H
 #define VMSA_H
@@ -22,12 +52,16 @@
 #include <stddef.h>
 #include <stdint.h>
 
+#if defined(__BYTE_ORDER__) && __BYTE_ORDER__ != __ORDER_LITTLE_ENDIAN__
+#error "vmsa is for little-endian hosts"
+#endif
+
 #ifdef __cplusplus
 extern "C" {
 #endif
 
 /* The version of this interface; vmsa_version() gives the library's. */
-#define VMSA_VERSION 3u
+#define VMSA_VERSION 4u
 
 /* The most bytes of a lent memory, and of a pool. */
 #define VMSA_MEMORY_LIMIT 1048576u
@@ -39,6 +73,7 @@ extern "C" {
 /*
  * A translation regime: the values that the guest has in TTBR0_EL1,
  * TTBR1_EL1, TCR_EL1, MAIR_EL1 and SCTLR_EL1, and where its tables lie.
+ * Start from VMSA_REGIME_INIT: T 0, as zeroed bytes have it, is refused.
  */
 struct vmsa_regime {
     size_t start;        /* offset of the pool in the memory */
@@ -55,7 +90,15 @@ struct vmsa_regime {
     uint8_t ha;          /* the walk sets the Access flag */
     uint8_t hd;          /* the walk marks pages dirty; only where ha is set */
     uint8_t wxn;         /* writable pages are execute-never */
+    uint8_t spare[8];
 };
+
+/*
+ * A regime with no pool, both ranges disabled with T 16, 48 bits of output, no
+ * updates and Device attributes; a call takes it once it has a pool.
+ */
+#define VMSA_REGIME_INIT \
+    { 0, 0, 0, 0, 0, 0, 16, 16, 1, 1, 5, 0, 0, 0, { 0, 0, 0, 0, 0, 0, 0, 0 } }
 
 /*
  * The kinds of an access. A kind above 5 is taken as VMSA_UPDATE, so that no
@@ -76,6 +119,7 @@ struct vmsa_access {
     uint64_t size;
     uint8_t el0;      /* from EL0, or else from EL1 */
     uint8_t kind;     /* enum vmsa_kind */
+    uint8_t spare[6];
 };
 
 enum vmsa_tag {
@@ -140,6 +184,7 @@ struct vmsa_answer {
     uint8_t dirtied;      /* this access cleared AP[2]: the page is dirty */
     uint8_t cacheable;    /* a TLB may hold it */
     uint8_t reads;        /* descriptor reads, 0 to 4 */
+    uint8_t spare[4];
 };
 
 /* A TLB entry of a session: the leaf of a page, where held is not 0. */
@@ -148,17 +193,19 @@ struct vmsa_entry {
     uint64_t value; /* the leaf descriptor */
     uint8_t left;   /* levels below it: 3 less its level */
     uint8_t held;
+    uint8_t spare[6];
 };
 
 /*
  * A session: the regime last accepted, where set is not 0, and 64 entries; a
- * page's entry is its number mod 64. Start from vmsa_session_empty(). It is
+ * page's entry is its number mod 64. Start from vmsa_session_empty. It is
  * plain data and may be copied; leave its fields to the library.
  */
 struct vmsa_session {
     struct vmsa_regime regime;
     struct vmsa_entry entries[VMSA_ENTRIES];
     uint8_t set;
+    uint8_t spare[7];
 };
 
 uint32_t vmsa_version(void);
@@ -167,14 +214,15 @@ uint32_t vmsa_version(void);
  * Walks the tables for one access, and holds nothing. On success with ha the
  * leaf's Access flag is set; with hd too, a write or update of a
  * writable-clean page (DBM and AP[2] both 1) also clears AP[2]. Otherwise,
- * and for any probe, no byte changes.
+ * and for any probe, no byte of the memory changes.
  */
-struct vmsa_answer vmsa_walk(uint8_t *memory, size_t length,
-                             const struct vmsa_regime *regime,
-                             const struct vmsa_access *access);
+void vmsa_walk(uint8_t *memory, size_t length,
+               const struct vmsa_regime *regime,
+               const struct vmsa_access *access,
+               struct vmsa_answer *answer);
 
-/* The fresh session: no regime, every entry empty. */
-struct vmsa_session vmsa_session_empty(void);
+/* Makes the session the fresh one: no regime, every entry empty. */
+void vmsa_session_empty(struct vmsa_session *session);
 
 /* Sets the regime and empties every entry. Gives 0, or the refusal. */
 uint8_t vmsa_session_set_regime(struct vmsa_session *session,
@@ -185,9 +233,10 @@ uint8_t vmsa_session_set_regime(struct vmsa_session *session,
  * As vmsa_walk under the session's regime, but a page held in its entry is
  * answered from there with 0 reads, unless the access would mark it dirty.
  */
-struct vmsa_answer vmsa_session_access(struct vmsa_session *session,
-                                       uint8_t *memory, size_t length,
-                                       const struct vmsa_access *access);
+void vmsa_session_access(struct vmsa_session *session,
+                         uint8_t *memory, size_t length,
+                         const struct vmsa_access *access,
+                         struct vmsa_answer *answer);
 
 /*
  * Stores a descriptor at a physical address in the pool. Gives 0, or the
@@ -201,26 +250,120 @@ uint8_t vmsa_session_store(struct vmsa_session *session,
 /* Empties every entry, and changes nothing else. */
 void vmsa_session_invalidate_all(struct vmsa_session *session);
 
-/* A wrong layout does not compile: an array type of negative size. */
+/* What a number of enum vmsa_refusal says. */
+static inline const char *vmsa_refusal_text(unsigned number)
+{
+    static const char *const texts[] = {
+        "accepted",
+        "the memory or the pool's part of it is out of bounds",
+        "the pool's physical address is out of bounds",
+        "a size field of the regime is out of bounds",
+        "a root is unaligned or not below 2^48",
+        "an attribute byte is neither Device nor Normal memory",
+        "the size or alignment does not fit the kind of access",
+        "the access crosses a page boundary",
+        "the descriptor is unaligned or not in the pool",
+        "the session has no regime"
+    };
+
+    if (number < sizeof texts / sizeof texts[0])
+        return texts[number];
+    return "unknown refusal";
+}
+
+#define VMSA_LEVELS(name) \
+    name ", level 0", name ", level 1", name ", level 2", name ", level 3"
+
+/* What a fault status code says, with its level. */
+static inline const char *vmsa_fault_text(unsigned code)
+{
+    static const char *const texts[] = {
+        VMSA_LEVELS("Address size fault"),
+        VMSA_LEVELS("Translation fault"),
+        VMSA_LEVELS("Access flag fault"),
+        VMSA_LEVELS("Permission fault"),
+        0, 0, 0, 0,
+        VMSA_LEVELS("Synchronous External abort on translation table walk")
+    };
+
+    if (code < sizeof texts / sizeof texts[0] && texts[code])
+        return texts[code];
+    return code == VMSA_ALIGNMENT_FAULT ? "Alignment fault" : "unknown fault";
+}
+
+#undef VMSA_LEVELS
+
+/*
+ * Where each field lies, and that there is no padding: next begins where field
+ * ends, and a struct ends where its last field does. A wrong layout does not
+ * compile: an array type of negative size.
+ */
 #define VMSA_ASSERT(name, condition) \
     typedef char vmsa_assert_##name[(condition) ? 1 : -1]
+#define VMSA_END(type, field) \
+    (offsetof(struct vmsa_##type, field) + \
+     sizeof(((struct vmsa_##type *)0)->field))
+#define VMSA_NEXT(type, field, next, offset) \
+    VMSA_ASSERT(type##_##next, \
+                VMSA_END(type, field) == (offset) && \
+                    offsetof(struct vmsa_##type, next) == (offset))
+#define VMSA_LAST(type, field, size) \
+    VMSA_ASSERT(type, VMSA_END(type, field) == (size) && \
+                          sizeof(struct vmsa_##type) == (size))
 
 VMSA_ASSERT(pointer, sizeof(size_t) == 8 && sizeof(void *) == 8);
-VMSA_ASSERT(regime, sizeof(struct vmsa_regime) == 56);
-VMSA_ASSERT(regime_tsz0, offsetof(struct vmsa_regime, tsz0) == 48);
-VMSA_ASSERT(regime_wxn, offsetof(struct vmsa_regime, wxn) == 55);
-VMSA_ASSERT(access, sizeof(struct vmsa_access) == 24);
-VMSA_ASSERT(access_kind, offsetof(struct vmsa_access, kind) == 17);
-VMSA_ASSERT(answer, sizeof(struct vmsa_answer) == 24);
-VMSA_ASSERT(answer_code, offsetof(struct vmsa_answer, code) == 10);
-VMSA_ASSERT(answer_reads, offsetof(struct vmsa_answer, reads) == 19);
-VMSA_ASSERT(entry, sizeof(struct vmsa_entry) == 24);
-VMSA_ASSERT(entry_held, offsetof(struct vmsa_entry, held) == 17);
-VMSA_ASSERT(session, sizeof(struct vmsa_session) == 1600);
-VMSA_ASSERT(session_entries, offsetof(struct vmsa_session, entries) == 56);
-VMSA_ASSERT(session_set, offsetof(struct vmsa_session, set) == 1592);
+
+VMSA_NEXT(regime, start, length, 8);
+VMSA_NEXT(regime, length, address, 16);
+VMSA_NEXT(regime, address, root0, 24);
+VMSA_NEXT(regime, root0, root1, 32);
+VMSA_NEXT(regime, root1, attributes, 40);
+VMSA_NEXT(regime, attributes, tsz0, 48);
+VMSA_NEXT(regime, tsz0, tsz1, 49);
+VMSA_NEXT(regime, tsz1, disabled0, 50);
+VMSA_NEXT(regime, disabled0, disabled1, 51);
+VMSA_NEXT(regime, disabled1, output, 52);
+VMSA_NEXT(regime, output, ha, 53);
+VMSA_NEXT(regime, ha, hd, 54);
+VMSA_NEXT(regime, hd, wxn, 55);
+VMSA_NEXT(regime, wxn, spare, 56);
+VMSA_LAST(regime, spare, 64);
+
+VMSA_NEXT(access, address, size, 8);
+VMSA_NEXT(access, size, el0, 16);
+VMSA_NEXT(access, el0, kind, 17);
+VMSA_NEXT(access, kind, spare, 18);
+VMSA_LAST(access, spare, 24);
+
+VMSA_NEXT(answer, output, tag, 8);
+VMSA_NEXT(answer, tag, refusal, 9);
+VMSA_NEXT(answer, refusal, code, 10);
+VMSA_NEXT(answer, code, level, 12);
+VMSA_NEXT(answer, level, attribute, 13);
+VMSA_NEXT(answer, attribute, shareability, 14);
+VMSA_NEXT(answer, shareability, nonglobal, 15);
+VMSA_NEXT(answer, nonglobal, accessed, 16);
+VMSA_NEXT(answer, accessed, dirtied, 17);
+VMSA_NEXT(answer, dirtied, cacheable, 18);
+VMSA_NEXT(answer, cacheable, reads, 19);
+VMSA_NEXT(answer, reads, spare, 20);
+VMSA_LAST(answer, spare, 24);
+
+VMSA_NEXT(entry, page, value, 8);
+VMSA_NEXT(entry, value, left, 16);
+VMSA_NEXT(entry, left, held, 17);
+VMSA_NEXT(entry, held, spare, 18);
+VMSA_LAST(entry, spare, 24);
+
+VMSA_NEXT(session, regime, entries, 64);
+VMSA_NEXT(session, entries, set, 1600);
+VMSA_NEXT(session, set, spare, 1601);
+VMSA_LAST(session, spare, 1608);
 
 #undef VMSA_ASSERT
+#undef VMSA_END
+#undef VMSA_NEXT
+#undef VMSA_LAST
 
 #ifdef __cplusplus
 }

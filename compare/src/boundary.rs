@@ -2,10 +2,18 @@
 //!
 //! The functions themselves are declared in `main.rs`, so that this module
 //! can be built and tested without the library.
+//!
+//! No struct has padding. Its spare bytes have no say in what the library is
+//! given, and are 0 in what it writes. So there is noise in all spare bytes
+//! that it is given, and wherever it only writes.
+
+mod session;
 
 use crate::random::Random;
 use crate::reference::{Access, Answer, Kind, Regime};
-use crate::session::{Call, PLACES};
+pub use session::{CEntry, CSession, LibrarySession, Reply, SessionFunctions, Subject};
+use std::mem::{self, size_of};
+use std::{array, slice};
 
 #[repr(C)]
 #[derive(Clone, Copy, Debug)]
@@ -25,6 +33,7 @@ pub struct CRegime {
     pub ha: u8,
     pub hd: u8,
     pub wxn: u8,
+    pub spare: [u8; 8],
 }
 
 #[repr(C)]
@@ -34,6 +43,7 @@ pub struct CAccess {
     pub size: u64,
     pub el0: u8,
     pub kind: u8,
+    pub spare: [u8; 6],
 }
 
 #[repr(C)]
@@ -52,6 +62,44 @@ pub struct CAnswer {
     pub dirtied: u8,
     pub cacheable: u8,
     pub reads: u8,
+    pub spare: [u8; 4],
+}
+
+const _: () = {
+    assert!(size_of::<CRegime>() == 64);
+    assert!(size_of::<CAccess>() == 24);
+    assert!(size_of::<CAnswer>() == 24);
+};
+
+/// Structs of integers without padding.
+///
+/// # Safety
+///
+/// Every byte of a value must belong to an integer.
+unsafe trait Plain: Copy {}
+
+// SAFETY: the sizes of its fields add up to 24.
+unsafe impl Plain for CAnswer {}
+
+fn bytes<T: Plain>(of: &T) -> &[u8] {
+    // SAFETY: every byte belongs to an integer, and so is initialised.
+    unsafe { slice::from_raw_parts((of as *const T).cast(), size_of::<T>()) }
+}
+
+fn bytes_mut<T: Plain>(of: &mut T) -> &mut [u8] {
+    // SAFETY: as above, and integers take any bytes.
+    unsafe { slice::from_raw_parts_mut((of as *mut T).cast(), size_of::<T>()) }
+}
+
+/// A struct of random bytes.
+fn scribbled<T: Plain>(noise: u64) -> T {
+    // SAFETY: integers can be 0.
+    let mut of: T = unsafe { mem::zeroed() };
+    let mut random = Random::new(noise);
+    for piece in bytes_mut(&mut of).chunks_mut(8) {
+        piece.copy_from_slice(&random.bits().to_le_bytes()[..piece.len()]);
+    }
+    of
 }
 
 pub const SUCCESS: u8 = 0;
@@ -59,27 +107,41 @@ pub const FAULT: u8 = 1;
 pub const REFUSED: u8 = 2;
 
 /// How the plain numbers are spelled: any nonzero byte says true, and every
-/// number above 5 says update, as 2 does.
+/// number above 5 says update, as 2 does. The noise fills spare bytes, and
+/// memory that the library only writes.
 #[derive(Clone, Copy, Debug)]
 pub struct Spelling {
     pub truth: u8,
     pub update: u8,
+    pub noise: u64,
 }
 
 impl Spelling {
     pub const PLAIN: Spelling = Spelling {
         truth: 1,
         update: 2,
+        noise: 0,
     };
 
     pub fn draw(random: &mut Random) -> Self {
+        let noise = random.bits();
         if random.coin() {
-            return Spelling::PLAIN;
+            return Spelling {
+                noise,
+                ..Spelling::PLAIN
+            };
         }
         Spelling {
             truth: random.pick(&[1, 2, 3, 4, 16, 0x7F, 0x80, 0xFE, 0xFF]),
             update: random.pick(&[2, 6, 7, 8, 9, 10, 0x80, 0x85, 0xFE, 0xFF]),
+            noise,
         }
+    }
+
+    /// The spare bytes of the struct with a number.
+    fn spare<const N: usize>(self, number: u64) -> [u8; N] {
+        let bytes = Random::new(self.noise ^ number).bits().to_le_bytes();
+        array::from_fn(|i| bytes[i])
     }
 
     fn flag(self, value: bool) -> u8 {
@@ -107,6 +169,7 @@ impl Spelling {
             ha: self.flag(regime.ha),
             hd: self.flag(regime.hd),
             wxn: self.flag(regime.wxn),
+            spare: self.spare(1),
         }
     }
 
@@ -123,12 +186,13 @@ impl Spelling {
                 Kind::ProbeRead => 4,
                 Kind::ProbeWrite => 5,
             },
+            spare: self.spare(2),
         }
     }
 }
 
 /// An answer of the reference in the library's form; what a case does not
-/// carry is 0.
+/// carry is 0, and so is what is spare.
 pub fn plain_answer(answer: &Answer) -> CAnswer {
     match *answer {
         Answer::Success(success) => CAnswer {
@@ -161,7 +225,7 @@ pub fn plain_answer(answer: &Answer) -> CAnswer {
 }
 
 pub type WalkFunction =
-    unsafe extern "C" fn(*mut u8, usize, *const CRegime, *const CAccess) -> CAnswer;
+    unsafe extern "C" fn(*mut u8, usize, *const CRegime, *const CAccess, *mut CAnswer);
 
 /// The library under test.
 #[derive(Clone, Copy)]
@@ -172,9 +236,9 @@ pub struct Library {
 impl Library {
     /// # Safety
     ///
-    /// The function must touch no byte but the `length` bytes and the two
-    /// structs it is lent, must not write the structs, and must be fit to be
-    /// called with any numbers in them.
+    /// The function must touch no byte but the `length` bytes and the three
+    /// structs it is lent, must not write those lent as `*const`, and must be
+    /// fit to be called with any numbers in them.
     pub unsafe fn new(walk: WalkFunction) -> Self {
         Library { walk }
     }
@@ -187,130 +251,12 @@ impl Library {
         spelling: Spelling,
     ) -> CAnswer {
         let (regime, access) = (spelling.regime(regime), spelling.access(access));
-        // SAFETY: pointer and length are those of one slice that is ours
-        // alone for the time of the call; the rest is promised to `new`.
-        unsafe { (self.walk)(memory.as_mut_ptr(), memory.len(), &regime, &access) }
-    }
-}
-
-// -------------------------------------------------------------- the session
-
-/// What a session replies to a call, in the library's form.
-#[derive(Clone, Copy, Debug, PartialEq, Eq)]
-pub enum Reply {
-    /// To set regime and store: 0 accepted, else the refusal.
-    Changed(u8),
-    /// To an access.
-    Answered(CAnswer),
-    /// To drop all.
-    Dropped,
-}
-
-/// A session that can be tried: the library's, or in the tests another one.
-pub trait Subject: Clone {
-    fn set_regime(&mut self, memory: &mut [u8], regime: &Regime, spelling: Spelling) -> u8;
-    fn access(&mut self, memory: &mut [u8], access: &Access, spelling: Spelling) -> CAnswer;
-    fn store(&mut self, memory: &mut [u8], address: u64, value: u64) -> u8;
-    fn invalidate_all(&mut self);
-
-    fn call(&mut self, memory: &mut [u8], call: &Call, spelling: Spelling) -> Reply {
-        match call {
-            Call::SetRegime(regime) => Reply::Changed(self.set_regime(memory, regime, spelling)),
-            Call::Access(access) => Reply::Answered(self.access(memory, access, spelling)),
-            Call::Store { address, value } => Reply::Changed(self.store(memory, *address, *value)),
-            Call::DropAll => {
-                self.invalidate_all();
-                Reply::Dropped
-            }
-        }
-    }
-}
-
-/// The parts of the library's session. They are here for their size alone:
-/// a session is lent as it came, and nothing looks into it.
-mod layout {
-    #![allow(dead_code)]
-    use super::{CRegime, PLACES};
-
-    #[repr(C)]
-    #[derive(Clone, Copy)]
-    struct CEntry {
-        page: u64,
-        value: u64,
-        left: u8,
-        held: u8,
-    }
-
-    #[repr(C)]
-    #[derive(Clone, Copy)]
-    pub struct CSession {
-        regime: CRegime,
-        entries: [CEntry; PLACES],
-        set: u8,
-    }
-}
-
-pub use layout::CSession;
-
-/// The library's functions on a session.
-#[derive(Clone, Copy)]
-pub struct SessionFunctions {
-    pub empty: unsafe extern "C" fn() -> CSession,
-    pub set_regime: unsafe extern "C" fn(*mut CSession, *const u8, usize, *const CRegime) -> u8,
-    pub access: unsafe extern "C" fn(*mut CSession, *mut u8, usize, *const CAccess) -> CAnswer,
-    pub store: unsafe extern "C" fn(*mut CSession, *mut u8, usize, u64, u64) -> u8,
-    pub invalidate_all: unsafe extern "C" fn(*mut CSession),
-}
-
-/// A session of the library under test.
-#[derive(Clone, Copy)]
-pub struct LibrarySession {
-    functions: SessionFunctions,
-    session: CSession,
-}
-
-impl LibrarySession {
-    /// A fresh session.
-    ///
-    /// # Safety
-    ///
-    /// The functions must touch no byte but the session, the `length` bytes
-    /// and the struct they are lent, must write none lent as `*const`, and
-    /// must be fit to be called with any numbers and with any session that
-    /// `empty` gave and the others left.
-    pub unsafe fn fresh(functions: SessionFunctions) -> Self {
-        LibrarySession {
-            functions,
-            session: (functions.empty)(),
-        }
-    }
-}
-
-impl Subject for LibrarySession {
-    fn set_regime(&mut self, memory: &mut [u8], regime: &Regime, spelling: Spelling) -> u8 {
-        let (start, length) = (memory.as_mut_ptr().cast_const(), memory.len());
-        let regime = spelling.regime(regime);
+        let (start, length) = (memory.as_mut_ptr(), memory.len());
+        let mut answer = scribbled(spelling.noise);
         // SAFETY: pointer and length are those of one slice that, like the
-        // session, is ours alone for the time of the call; the rest is
-        // promised to `fresh`.
-        unsafe { (self.functions.set_regime)(&mut self.session, start, length, &regime) }
-    }
-
-    fn access(&mut self, memory: &mut [u8], access: &Access, spelling: Spelling) -> CAnswer {
-        let (start, length) = (memory.as_mut_ptr(), memory.len());
-        let access = spelling.access(access);
-        // SAFETY: as for `set_regime`.
-        unsafe { (self.functions.access)(&mut self.session, start, length, &access) }
-    }
-
-    fn store(&mut self, memory: &mut [u8], address: u64, value: u64) -> u8 {
-        let (start, length) = (memory.as_mut_ptr(), memory.len());
-        // SAFETY: as for `set_regime`.
-        unsafe { (self.functions.store)(&mut self.session, start, length, address, value) }
-    }
-
-    fn invalidate_all(&mut self) {
-        // SAFETY: as for `set_regime`.
-        unsafe { (self.functions.invalidate_all)(&mut self.session) }
+        // structs, is ours alone for the time of the call; the rest is
+        // promised to `new`.
+        unsafe { (self.walk)(start, length, &regime, &access, &mut answer) };
+        answer
     }
 }

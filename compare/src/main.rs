@@ -22,8 +22,9 @@ extern "C" {
         length: usize,
         regime: *const CRegime,
         access: *const CAccess,
-    ) -> CAnswer;
-    fn vmsa_session_empty() -> CSession;
+        answer: *mut CAnswer,
+    );
+    fn vmsa_session_empty(session: *mut CSession);
     fn vmsa_session_set_regime(
         session: *mut CSession,
         memory: *const u8,
@@ -35,7 +36,8 @@ extern "C" {
         memory: *mut u8,
         length: usize,
         access: *const CAccess,
-    ) -> CAnswer;
+        answer: *mut CAnswer,
+    );
     fn vmsa_session_store(
         session: *mut CSession,
         memory: *mut u8,
@@ -78,7 +80,7 @@ fn compare_walks(seed: u64, trace: bool) -> bool {
 /// The session.
 fn compare_scripts(seed: u64, trace: bool) -> bool {
     // SAFETY: as above.
-    let fresh = || unsafe { LibrarySession::fresh(SESSION) };
+    let fresh = |noise| unsafe { LibrarySession::fresh(SESSION, noise) };
     let mut tally = scripts::Tally::default();
     if let Err(difference) = scripts::run_all(seed, trace, fresh, &mut tally) {
         println!("{difference}");

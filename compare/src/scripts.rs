@@ -25,19 +25,21 @@ pub struct Step {
     pub spelling: Spelling,
 }
 
-/// Plays all scripts to a session and to the reference. Ends at the first
-/// difference, which it tells.
+/// Plays all scripts to a session and to the reference; each fresh session is
+/// made over noise. Ends at the first difference, which it tells.
 pub fn run_all<S: Subject>(
     seed: u64,
     trace: bool,
-    fresh: impl Fn() -> S,
+    fresh: impl Fn(u64) -> Result<S, String>,
     tally: &mut Tally,
 ) -> Result<(), String> {
     let mut random = Random::new(seed);
     for number in 1..=SCRIPTS {
         let mut script = Script::draw(number, Random::new(random.bits()));
         tally.begin(script.family);
-        let mut play = Play::new(number, trace, fresh(), &script.world.memory, tally);
+        let subject = fresh(random.bits())
+            .map_err(|why| format!("DIFFERENCE in a fresh session of seed {seed}\n  {why}"))?;
+        let mut play = Play::new(number, trace, subject, &script.world.memory, tally);
         let played = play.run(&mut script);
         played.map_err(|why| play.tell(seed, script.family, &why))?;
     }

@@ -3,6 +3,7 @@
 
 mod rule3;
 mod session;
+mod spare;
 
 use crate::boundary::plain_answer;
 use crate::cases::{run_all, Case, Runner};

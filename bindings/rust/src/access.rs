@@ -125,6 +125,7 @@ impl From<&Access> for ffi::Access {
             size: access.size,
             el0: (access.el == ExceptionLevel::El0).into(),
             kind: access.kind as u8,
+            spare: [0; 6],
         }
     }
 }

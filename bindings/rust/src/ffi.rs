@@ -1,8 +1,11 @@
 //! The C interface: the structs, the functions, and a safe form of each.
+//!
+//! Only integers and pointers cross. No struct has padding: the spare bytes
+//! have no say in what is given to the library, and are 0 in what it gives.
 
 #![allow(unsafe_code)]
 
-use std::mem::{offset_of, size_of};
+use std::mem::{offset_of, size_of, MaybeUninit};
 
 // The path is named because `bench` takes this file in from its own folder.
 #[cfg(test)]
@@ -26,6 +29,7 @@ pub struct Regime {
     pub ha: u8,
     pub hd: u8,
     pub wxn: u8,
+    pub spare: [u8; 8],
 }
 
 #[repr(C)]
@@ -35,6 +39,7 @@ pub struct Access {
     pub size: u64,
     pub el0: u8,
     pub kind: u8,
+    pub spare: [u8; 6],
 }
 
 #[repr(C)]
@@ -52,6 +57,7 @@ pub struct Answer {
     pub dirtied: u8,
     pub cacheable: u8,
     pub reads: u8,
+    pub spare: [u8; 4],
 }
 
 #[repr(C)]
@@ -61,6 +67,7 @@ pub struct Entry {
     pub value: u64,
     pub left: u8,
     pub held: u8,
+    pub spare: [u8; 6],
 }
 
 pub const ENTRIES: usize = 64;
@@ -71,57 +78,42 @@ pub struct Session {
     pub regime: Regime,
     pub entries: [Entry; ENTRIES],
     pub set: u8,
+    pub spare: [u8; 7],
 }
 
-// Where the layout is another one, the crate does not compile.
-const _: () = {
-    assert!(size_of::<Regime>() == 56);
-    assert!(offset_of!(Regime, start) == 0);
-    assert!(offset_of!(Regime, length) == 8);
-    assert!(offset_of!(Regime, address) == 16);
-    assert!(offset_of!(Regime, root0) == 24);
-    assert!(offset_of!(Regime, root1) == 32);
-    assert!(offset_of!(Regime, attributes) == 40);
-    assert!(offset_of!(Regime, tsz0) == 48);
-    assert!(offset_of!(Regime, tsz1) == 49);
-    assert!(offset_of!(Regime, disabled0) == 50);
-    assert!(offset_of!(Regime, disabled1) == 51);
-    assert!(offset_of!(Regime, output) == 52);
-    assert!(offset_of!(Regime, ha) == 53);
-    assert!(offset_of!(Regime, hd) == 54);
-    assert!(offset_of!(Regime, wxn) == 55);
+/// The size of a field.
+const fn width<S, F>(_: fn(&S) -> &F) -> usize {
+    size_of::<F>()
+}
 
-    assert!(size_of::<Access>() == 24);
-    assert!(offset_of!(Access, address) == 0);
-    assert!(offset_of!(Access, size) == 8);
-    assert!(offset_of!(Access, el0) == 16);
-    assert!(offset_of!(Access, kind) == 17);
+/// Where each field lies, and that there is no padding: the sizes of the
+/// fields add up to that of the struct. With another layout the crate does not
+/// compile.
+macro_rules! layout {
+    ($name:ident: $size:literal, $($field:ident: $offset:literal),+) => {
+        const _: () = {
+            assert!(size_of::<$name>() == $size);
+            $(assert!(offset_of!($name, $field) == $offset);)+
+            assert!(0 $(+ width(|s: &$name| &s.$field))+ == $size);
+        };
+    };
+}
 
-    assert!(size_of::<Answer>() == 24);
-    assert!(offset_of!(Answer, output) == 0);
-    assert!(offset_of!(Answer, tag) == 8);
-    assert!(offset_of!(Answer, refusal) == 9);
-    assert!(offset_of!(Answer, code) == 10);
-    assert!(offset_of!(Answer, level) == 12);
-    assert!(offset_of!(Answer, attribute) == 13);
-    assert!(offset_of!(Answer, shareability) == 14);
-    assert!(offset_of!(Answer, nonglobal) == 15);
-    assert!(offset_of!(Answer, accessed) == 16);
-    assert!(offset_of!(Answer, dirtied) == 17);
-    assert!(offset_of!(Answer, cacheable) == 18);
-    assert!(offset_of!(Answer, reads) == 19);
-
-    assert!(size_of::<Entry>() == 24);
-    assert!(offset_of!(Entry, page) == 0);
-    assert!(offset_of!(Entry, value) == 8);
-    assert!(offset_of!(Entry, left) == 16);
-    assert!(offset_of!(Entry, held) == 17);
-
-    assert!(size_of::<Session>() == 1600);
-    assert!(offset_of!(Session, regime) == 0);
-    assert!(offset_of!(Session, entries) == 56);
-    assert!(offset_of!(Session, set) == 1592);
-};
+layout!(
+    Regime: 64,
+    start: 0, length: 8, address: 16, root0: 24, root1: 32, attributes: 40,
+    tsz0: 48, tsz1: 49, disabled0: 50, disabled1: 51, output: 52,
+    ha: 53, hd: 54, wxn: 55, spare: 56
+);
+layout!(Access: 24, address: 0, size: 8, el0: 16, kind: 17, spare: 18);
+layout!(
+    Answer: 24,
+    output: 0, tag: 8, refusal: 9, code: 10, level: 12, attribute: 13,
+    shareability: 14, nonglobal: 15, accessed: 16, dirtied: 17, cacheable: 18,
+    reads: 19, spare: 20
+);
+layout!(Entry: 24, page: 0, value: 8, left: 16, held: 17, spare: 18);
+layout!(Session: 1608, regime: 0, entries: 64, set: 1600, spare: 1601);
 
 extern "C" {
     fn vmsa_version() -> u32;
@@ -130,8 +122,9 @@ extern "C" {
         length: usize,
         regime: *const Regime,
         access: *const Access,
-    ) -> Answer;
-    fn vmsa_session_empty() -> Session;
+        answer: *mut Answer,
+    );
+    fn vmsa_session_empty(session: *mut Session);
     fn vmsa_session_set_regime(
         session: *mut Session,
         memory: *const u8,
@@ -143,7 +136,8 @@ extern "C" {
         memory: *mut u8,
         length: usize,
         access: *const Access,
-    ) -> Answer;
+        answer: *mut Answer,
+    );
     fn vmsa_session_store(
         session: *mut Session,
         memory: *mut u8,
@@ -157,7 +151,8 @@ extern "C" {
 // What makes each call below sound: the structs have the library's layout (the
 // asserts above), a slice is a pointer and its length, and the library takes
 // any value, stays inside the slice and the structs, writes none that is lent
-// as `*const`, and keeps no pointer.
+// as `*const`, and keeps no pointer. An answer, and the fresh session, it only
+// writes, and every byte of it; any bytes are one.
 
 pub fn version() -> u32 {
     // SAFETY: takes nothing.
@@ -165,13 +160,30 @@ pub fn version() -> u32 {
 }
 
 pub fn walk(memory: &mut [u8], regime: &Regime, access: &Access) -> Answer {
+    let mut answer = MaybeUninit::uninit();
     // SAFETY: the pointer and length are those of a slice lent to this call.
-    unsafe { vmsa_walk(memory.as_mut_ptr(), memory.len(), regime, access) }
+    // The call reads nothing of the answer and writes all of it, so that it is
+    // initialised afterwards.
+    unsafe {
+        vmsa_walk(
+            memory.as_mut_ptr(),
+            memory.len(),
+            regime,
+            access,
+            answer.as_mut_ptr(),
+        );
+        answer.assume_init()
+    }
 }
 
 pub fn session_empty() -> Session {
-    // SAFETY: takes nothing.
-    unsafe { vmsa_session_empty() }
+    let mut session = MaybeUninit::uninit();
+    // SAFETY: the call reads nothing of the session and writes all of it, so
+    // that it is initialised afterwards.
+    unsafe {
+        vmsa_session_empty(session.as_mut_ptr());
+        session.assume_init()
+    }
 }
 
 pub fn session_set_regime(session: &mut Session, memory: &[u8], regime: &Regime) -> u8 {
@@ -181,8 +193,19 @@ pub fn session_set_regime(session: &mut Session, memory: &[u8], regime: &Regime)
 }
 
 pub fn session_access(session: &mut Session, memory: &mut [u8], access: &Access) -> Answer {
-    // SAFETY: as for `walk`; the session is lent to this call alone.
-    unsafe { vmsa_session_access(session, memory.as_mut_ptr(), memory.len(), access) }
+    let mut answer = MaybeUninit::uninit();
+    // SAFETY: as for `walk`, the answer too; the session is lent to this call
+    // alone.
+    unsafe {
+        vmsa_session_access(
+            session,
+            memory.as_mut_ptr(),
+            memory.len(),
+            access,
+            answer.as_mut_ptr(),
+        );
+        answer.assume_init()
+    }
 }
 
 pub fn session_store(session: &mut Session, memory: &mut [u8], address: u64, value: u64) -> u8 {

@@ -45,6 +45,64 @@
 //! assert_eq!(stop.to_string(), "Translation fault, level 3 (0b000111)");
 //! # Ok::<(), vmsa::Stop>(())
 //! ```
+//!
+//! # Threads
+//!
+//! `&mut [u8]` already says that nobody else reads or writes the memory while
+//! a call runs, and Rust holds the monitor's own threads to it. A vCPU of the
+//! guest is none of them: it writes guest memory behind Rust's back. The
+//! library marks a descriptor by a plain store and not by a compare-and-swap,
+//! so it could undo what a vCPU has just written there. A monitor whose tables
+//! lie in memory that a running vCPU can write has two ways:
+//!
+//! - It stops the vCPUs for the call.
+//! - It lends a copy of the pool. A success changes at most one descriptor of
+//!   it, a fault or a refusal none. The monitor makes that change in the
+//!   guest's memory itself, with a compare-and-swap. Where that fails, the
+//!   session holds a leaf that the guest's tables do not have: empty it, and
+//!   ask again.
+//!
+//! ```
+//! use std::sync::atomic::{AtomicU64, Ordering::SeqCst};
+//! use vmsa::{Access, Answer, Session};
+//!
+//! /// An access over tables that vCPUs write meanwhile.
+//! fn access(session: &mut Session, tables: &[AtomicU64], access: &Access) -> Answer {
+//!     loop {
+//!         let found: Vec<u64> = tables.iter().map(|entry| entry.load(SeqCst)).collect();
+//!         let mut copy: Vec<u8> = found.iter().flat_map(|entry| entry.to_ne_bytes()).collect();
+//!         let answer = session.access(&mut copy, access);
+//!         let left = |at| u64::from_ne_bytes(copy[8 * at..][..8].try_into().unwrap());
+//!         let Some(at) = (0..found.len()).find(|&at| left(at) != found[at]) else {
+//!             return answer;
+//!         };
+//!         if tables[at].compare_exchange(found[at], left(at), SeqCst, SeqCst).is_ok() {
+//!             return answer;
+//!         }
+//!         session.invalidate_all();
+//!     }
+//! }
+//! # let tables: Vec<AtomicU64> = (0..512).map(|_| AtomicU64::new(0)).collect();
+//! # tables[0].store(0x0008_0000_8020_0781, SeqCst);
+//! # let root = vmsa::PhysAddr(0x4000_0000);
+//! # let regime = vmsa::Regime::new()
+//! #     .pool(vmsa::Pool::new(0, 0x1000, root))
+//! #     .range0(vmsa::Range::new(root, 39))
+//! #     .ha(true)
+//! #     .hd(true)
+//! #     .attributes([0xff; 8]);
+//! # let mut session = Session::new();
+//! # session.set_regime(&[0; 0x1000], &regime)?;
+//! # let write = Access::write(vmsa::VirtAddr(0x1_2340), 8);
+//! # assert!(access(&mut session, &tables, &write)?.dirtied);
+//! # assert_eq!(tables[0].load(SeqCst), 0x0008_0000_8020_0701);
+//! # assert_eq!(access(&mut session, &tables, &write)?.reads, 0);
+//! # Ok::<(), vmsa::Stop>(())
+//! ```
+//!
+//! A walk in steps that hands out the expected and the new value of the
+//! descriptor, and so needs no copy, is planned. A [`Session`] may go from
+//! thread to thread like any other value.
 
 #![deny(missing_docs)]
 #![deny(unsafe_code)]
@@ -69,7 +127,7 @@ pub const MEMORY_LIMIT: usize = 1_048_576;
 pub const POOL_LIMIT: usize = 65_536;
 
 /// The version of the C interface that this crate speaks.
-pub const VERSION: u32 = 3;
+pub const VERSION: u32 = 4;
 
 /// The version of the library that is linked in; to be [`VERSION`].
 pub fn version() -> u32 {

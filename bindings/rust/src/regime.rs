@@ -265,6 +265,7 @@ impl From<&Regime> for ffi::Regime {
             ha: regime.ha.into(),
             hd: regime.hd.into(),
             wxn: regime.wxn.into(),
+            spare: [0; 8],
         }
     }
 }

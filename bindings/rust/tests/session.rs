@@ -164,6 +164,30 @@ fn every_entry() {
     }
 }
 
+#[test]
+fn same_calls_same_session() {
+    // Two sessions over two memories; each call leaves them equal.
+    let mut memories = [memory(), memory()];
+    let mut sessions = [Session::new(), Session::new()];
+    let mut both = |call: &dyn Fn(&mut Session, &mut [u8])| {
+        for (session, memory) in sessions.iter_mut().zip(&mut memories) {
+            call(session, memory);
+        }
+        assert_eq!(sessions[0], sessions[1]);
+        sessions[0].clone()
+    };
+    let set = both(&|session, memory| session.set_regime(memory, &regime()).unwrap());
+    let held = both(&|session, memory| {
+        session.access(memory, &write()).unwrap();
+    });
+    assert_ne!(held, set);
+    let stored = both(&|session, memory| session.store(memory, PhysAddr(POOL), 0).unwrap());
+    assert_eq!(stored, held);
+    // An emptied session is as one that was just set.
+    assert_eq!(both(&|session, _| session.invalidate_all()), set);
+    assert!(memories[0] == memories[1]);
+}
+
 /// xorshift64.
 struct Random(u64);
 

@@ -131,6 +131,7 @@ impl<'a, S: Subject> Play<'a, S> {
         self.history.record(step.call, got, step.lent, after);
 
         let mut why = differences(&wanted, &got, &self.memory, &self.arena);
+        why.extend(self.subject.wrong_bytes(&step.call, &got));
         match self.history.check(at) {
             Ok(checked) if why.is_empty() => {
                 self.tally
@@ -194,6 +195,7 @@ impl<'a, S: Subject> Play<'a, S> {
         let lent = scratch.arena.lend(step.lent);
         let got = subject.call(lent, &step.call, step.spelling);
         let mut why = differences(&wanted, &got, &scratch.memory, &scratch.arena);
+        why.extend(subject.wrong_bytes(&step.call, &got));
 
         let promised = &mut scratch.promised[..step.lent];
         match self.history.whole().promise(access, promised) {

@@ -199,7 +199,7 @@ fn nothing_is_remembered_without_a_walk() {
 #[test]
 fn scripts_meet_all_that_can_occur() {
     let mut tally = Tally::default();
-    let played = run_all(1, false, || Mirror(Session::FRESH), &mut tally);
+    let played = run_all(1, false, |_| Ok(Mirror(Session::FRESH)), &mut tally);
     played.unwrap_or_else(|difference| panic!("{difference}"));
     assert_eq!(tally.missing(), []);
     assert_eq!(tally.strangers(), []);

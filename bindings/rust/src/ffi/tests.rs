@@ -2,6 +2,9 @@
 
 use super::*;
 
+#[path = "tests/spare.rs"]
+mod spare;
+
 const POOL: u64 = 0x4000_0000;
 const LEAF: usize = 0x3018;
 const CLEAN: u64 = 0x0008_0000_8000_53c3;
@@ -23,6 +26,7 @@ const REGIME: Regime = Regime {
     ha: 1,
     hd: 1,
     wxn: 0,
+    spare: [0; 8],
 };
 
 const READ: Access = Access {
@@ -30,6 +34,7 @@ const READ: Access = Access {
     size: 4,
     el0: 1,
     kind: 0,
+    spare: [0; 6],
 };
 
 const WRITE: Access = Access { kind: 1, ..READ };
@@ -176,13 +181,19 @@ fn output_codes_above_5() {
 fn null_where_the_length_is_0() {
     let null = std::ptr::null_mut();
     let mut session = session(REGIME);
+    let mut answers = [Answer::default(); 2];
+    let [walked, accessed] = &mut answers;
     // SAFETY: a null pointer is allowed where the length is 0.
     unsafe {
-        assert_eq!(vmsa_walk(null, 0, &REGIME, &READ).refusal, 1);
+        vmsa_walk(null, 0, &REGIME, &READ, walked);
+        vmsa_session_access(&mut session, null, 0, &READ, accessed);
         assert_eq!(vmsa_session_set_regime(&mut session, null, 0, &REGIME), 1);
-        assert_eq!(vmsa_session_access(&mut session, null, 0, &READ).refusal, 1);
         assert_eq!(vmsa_session_store(&mut session, null, 0, POOL, 0), 1);
     }
+    assert_eq!(
+        answers.map(|answer| (answer.tag, answer.refusal)),
+        [(2, 1); 2]
+    );
 }
 
 #[test]
@@ -209,6 +220,7 @@ fn session_keeps_each_regime_field() {
         ha: 0,
         hd: 1,
         wxn: 0,
+        ..REGIME
     };
     assert_eq!(session(regime).regime, regime);
     let flags = Regime {
@@ -324,6 +336,7 @@ fn session_uses_each_entry_field() {
             value: 0x0000_7000_0000_0643 + ((i as u64) << 39),
             left: 0,
             held: 1 + 3 * i as u8,
+            ..Entry::default()
         };
     }
     let mut memory = memory();
@@ -388,6 +401,52 @@ fn next(state: &mut u64) -> u64 {
     *state
 }
 
+/// A regime with bytes that no call leaves in a session.
+fn any_regime(state: &mut u64) -> Regime {
+    let mut byte = || next(state) as u8;
+    let mut regime = Regime {
+        start: 0x1000 * usize::from(byte() % 6),
+        length: 0x1000 * usize::from(byte() % 4),
+        output: byte() % 8,
+        tsz0: byte() % 48,
+        tsz1: byte(),
+        disabled0: byte() & byte() & byte(),
+        disabled1: byte(),
+        ha: byte(),
+        hd: byte(),
+        wxn: byte(),
+        spare: [(); 8].map(|()| byte()),
+        ..REGIME
+    };
+    regime.root1 = next(state);
+    regime.attributes = next(state);
+    if next(state) & 7 == 0 {
+        regime.address = next(state);
+        regime.start = next(state) as usize;
+    }
+    if next(state) & 3 == 0 {
+        regime.root0 = next(state) & !0xfff;
+    }
+    regime
+}
+
+fn any_session(state: &mut u64) -> Session {
+    let mut session = session_empty();
+    session.regime = any_regime(state);
+    for (i, entry) in session.entries.iter_mut().enumerate() {
+        *entry = Entry {
+            page: i as u64 | next(state) & 0xc0,
+            value: next(state),
+            left: next(state) as u8 & 7,
+            held: next(state) as u8,
+            spare: [(); 6].map(|()| next(state) as u8),
+        };
+    }
+    session.set = next(state) as u8;
+    session.spare = [(); 7].map(|()| next(state) as u8);
+    session
+}
+
 #[test]
 fn any_bytes_are_a_session() {
     // Whatever stands in a session, a call ends, and changes bytes of the pool
@@ -399,45 +458,14 @@ fn any_bytes_are_a_session() {
     }
     let mut answers = [0; 3];
     for _ in 0..10_000 {
-        let mut byte = || next(&mut state) as u8;
-        let mut session = session_empty();
-        session.set = byte();
-        session.regime = Regime {
-            start: 0x1000 * usize::from(byte() % 6),
-            length: 0x1000 * usize::from(byte() % 4),
-            output: byte() % 8,
-            tsz0: byte() % 48,
-            tsz1: byte(),
-            disabled0: byte() & byte() & byte(),
-            disabled1: byte(),
-            ha: byte(),
-            hd: byte(),
-            wxn: byte(),
-            ..REGIME
-        };
-        session.regime.root0 = next(&mut state) & !0xfff;
-        session.regime.root1 = next(&mut state);
-        session.regime.attributes = next(&mut state);
-        if next(&mut state) & 7 == 0 {
-            session.regime.address = next(&mut state);
-            session.regime.start = next(&mut state) as usize;
-        }
-        if next(&mut state) & 3 != 0 {
-            session.regime.root0 = POOL;
-        }
-        for (i, entry) in session.entries.iter_mut().enumerate() {
-            entry.page = i as u64 | next(&mut state) & 0xc0;
-            entry.value = next(&mut state);
-            entry.left = next(&mut state) as u8 & 7;
-            entry.held = next(&mut state) as u8;
-        }
-
+        let mut session = any_session(&mut state);
         let mut memory = around.clone();
         let access = Access {
             address: next(&mut state) & 0xf_ffff,
             size: 1,
             el0: next(&mut state) as u8,
             kind: next(&mut state) as u8,
+            spare: [(); 6].map(|()| next(&mut state) as u8),
         };
         let answer = session_access(&mut session, &mut memory, &access);
         answers[usize::from(answer.tag)] += 1;

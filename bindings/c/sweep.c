@@ -1,0 +1,323 @@
+/*
+ * Random calls, the same on every machine: prints how they ended, and one
+ * number over every answer, session and memory. What the library does on one
+ * machine it has to do on another; the run script compares.
+ */
+#include <inttypes.h>
+#include <stdio.h>
+#include <string.h>
+
+#include "vmsa.h"
+
+#define WORLDS 1000
+#define CALLS 500 /* in each world */
+#define PAGES 18u /* of the memory; a pool has at most 16 */
+#define BYTES (PAGES * 4096u)
+
+static uint8_t memory[BYTES];
+static uint64_t pool;             /* its physical address, as a rule */
+static struct vmsa_regime regime; /* the last one that was accepted */
+static struct vmsa_session session;
+
+/*
+ * Random numbers: xorshift64*. No expression takes two of them, since C leaves
+ * their order to the compiler.
+ */
+
+static uint64_t state = UINT64_C(0x9E3779B97F4A7C15);
+
+static uint64_t next(void)
+{
+    state ^= state >> 12;
+    state ^= state << 25;
+    state ^= state >> 27;
+    return state * UINT64_C(0x2545F4914F6CDD1D);
+}
+
+static unsigned below(unsigned n)
+{
+    return (unsigned)(next() >> 33) % n;
+}
+
+static int one_in(unsigned n)
+{
+    return below(n) == 0;
+}
+
+/* How the calls ended, and the number over all that they left. */
+
+static unsigned successes, faults, refusals[10], accepted, held, accessed,
+    dirtied;
+static uint64_t digest = UINT64_C(0xCBF29CE484222325);
+
+static void add(const void *from, size_t size)
+{
+    const uint8_t *bytes = (const uint8_t *)from;
+    uint64_t word;
+
+    for (; size >= 8; size -= 8, bytes += 8) {
+        memcpy(&word, bytes, 8);
+        digest = (digest ^ word) * UINT64_C(0x100000001B3);
+        digest ^= digest >> 29;
+    }
+}
+
+static void add_reply(unsigned refusal)
+{
+    uint64_t word = refusal;
+
+    add(&word, sizeof word);
+    if (refusal == 0)
+        accepted++;
+    else
+        refusals[refusal % 10]++;
+}
+
+static void add_answer(const struct vmsa_answer *answer)
+{
+    add(answer, sizeof *answer);
+    if (answer->tag == VMSA_REFUSED)
+        refusals[answer->refusal % 10]++;
+    else if (answer->tag == VMSA_FAULT)
+        faults++;
+    else
+        successes++;
+    held += answer->cacheable && answer->reads == 0;
+    accessed += answer->accessed;
+    dirtied += answer->dirtied;
+}
+
+/* A world: tables with entries at a few indexes, and a regime. */
+
+static const unsigned indexes[] = { 0, 1, 2, 3, 511 };
+#define INDEXES (sizeof indexes / sizeof indexes[0])
+
+/* A table above level 3, and a page there; at times a block, or neither. */
+static uint64_t descriptor(void)
+{
+    unsigned which = below(32);
+    uint64_t value = next();
+    uint64_t flags = value & UINT64_C(0x0078000000000FFC);
+    unsigned page = below(which == 0 ? 64 : 16);
+
+    if (which == 1)
+        return value;
+    if (which == 2)
+        return 0;
+    if (which < 6)
+        return ((value >> 16) & ~UINT64_C(0xFFF)) | flags | 3;
+    if (which < 9)
+        return (value & UINT64_C(0x3FE00000)) | flags | 1;
+    return (pool + 4096 * page) | flags | 3;
+}
+
+static void build_tables(void)
+{
+    uint64_t value;
+    size_t page, i;
+    int byte;
+
+    for (page = 0; page < PAGES; page++)
+        for (i = 0; i < INDEXES; i++) {
+            value = descriptor();
+            for (byte = 0; byte < 8; byte++)
+                memory[page * 4096 + indexes[i] * 8 + (size_t)byte] =
+                    (uint8_t)(value >> (8 * byte));
+        }
+}
+
+static uint64_t attributes(void)
+{
+    static const uint8_t bytes[] = { 0x00, 0x04, 0x08, 0x0C, 0x44, 0xBB, 0xFF };
+    uint64_t value = 0;
+    int i;
+
+    for (i = 0; i < 8; i++)
+        value = value << 8 | bytes[below(sizeof bytes)];
+    return one_in(50) ? value ^ 1u << below(31) : value;
+}
+
+static uint8_t size_field(void)
+{
+    if (one_in(100))
+        return (uint8_t)next();
+    return (uint8_t)(one_in(2) ? 16 : 16 + below(24));
+}
+
+/* A multiple of 4,096 below a number of pages; now and then 8 more. */
+static unsigned pages_below(unsigned n)
+{
+    unsigned bytes = 4096 * below(n);
+
+    return one_in(100) ? bytes + 8 : bytes;
+}
+
+static struct vmsa_regime random_regime(void)
+{
+    struct vmsa_regime r;
+
+    r.start = pages_below(3);
+    r.length = one_in(8) ? pages_below(18) : VMSA_POOL_LIMIT;
+    r.address = one_in(16) ? pool + pages_below(2) : pool;
+    r.root0 = pool + pages_below(16);
+    r.root1 = pool + pages_below(16);
+    r.attributes = attributes();
+    r.tsz0 = size_field();
+    r.tsz1 = size_field();
+    r.disabled0 = (uint8_t)one_in(20);
+    r.disabled1 = (uint8_t)one_in(20);
+    r.output = (uint8_t)(one_in(4) ? below(7) : 5);
+    r.ha = (uint8_t)!one_in(4);
+    r.hd = (uint8_t)!one_in(4);
+    r.wxn = (uint8_t)one_in(4);
+    memset(r.spare, (int)below(256), sizeof r.spare);
+    return r;
+}
+
+/* Calls */
+
+static uint64_t address(void)
+{
+    unsigned range = below(2);
+    unsigned bits = 64 - (range ? regime.tsz1 : regime.tsz0) % 64u;
+    unsigned offset = below(4096);
+    uint64_t value = 0;
+    int level;
+
+    for (level = 0; level < 4; level++)
+        value = value << 9 | indexes[below(INDEXES)];
+    value = value << 12 | (one_in(2) ? offset & 0xFF0 : offset);
+    if (bits < 64 && !one_in(16)) {
+        value &= (UINT64_C(1) << bits) - 1;
+        if (range)
+            value |= UINT64_MAX << bits;
+    }
+    return value;
+}
+
+/* Half of them are at one of the last eight addresses. */
+static struct vmsa_access random_access(void)
+{
+    static const uint8_t sizes[] = { 1, 2, 4, 8, 16 };
+    static uint64_t last[8];
+    struct vmsa_access access = { 0 };
+    unsigned i = below(8);
+
+    if (one_in(2))
+        last[i] = address();
+    access.address = last[i];
+    access.kind = (uint8_t)below(7);
+    access.size = sizes[below(5)];
+    if (access.kind == VMSA_FETCH)
+        access.size = 4;
+    if (access.kind == VMSA_PROBE_READ || access.kind == VMSA_PROBE_WRITE)
+        access.size = 1;
+    if (one_in(50))
+        access.size = below(20);
+    access.el0 = (uint8_t)below(2);
+    memset(access.spare, (int)below(256), sizeof access.spare);
+    return access;
+}
+
+static size_t length_now(void)
+{
+    return one_in(50) ? below(BYTES) : BYTES;
+}
+
+static void set_regime(void)
+{
+    struct vmsa_regime r = random_regime();
+    uint8_t refusal = vmsa_session_set_regime(&session, memory, length_now(),
+                                              &r);
+
+    add_reply(refusal);
+    if (refusal == VMSA_ACCEPTED)
+        regime = r;
+}
+
+static void store(void)
+{
+    uint64_t at = pool + pages_below(17);
+    uint64_t value = descriptor();
+    size_t length = length_now();
+
+    at += 8 * indexes[below(INDEXES)];
+    if (one_in(20))
+        at += below(16);
+    add_reply(vmsa_session_store(&session, memory, length, at, value));
+}
+
+static void walk(void)
+{
+    struct vmsa_regime r = one_in(4) ? random_regime() : regime;
+    struct vmsa_access access = random_access();
+    struct vmsa_answer answer;
+
+    memset(&answer, 0xAA, sizeof answer);
+    vmsa_walk(memory, length_now(), &r, &access, &answer);
+    add_answer(&answer);
+}
+
+static void access_session(void)
+{
+    struct vmsa_access access = random_access();
+    struct vmsa_answer answer;
+
+    memset(&answer, 0xAA, sizeof answer);
+    vmsa_session_access(&session, memory, length_now(), &access, &answer);
+    add_answer(&answer);
+}
+
+static void call(void)
+{
+    unsigned which = below(64);
+
+    if (which == 0)
+        vmsa_session_invalidate_all(&session);
+    else if (which == 1)
+        set_regime();
+    else if (which < 6)
+        store();
+    else if (which < 16)
+        walk();
+    else
+        access_session();
+}
+
+static void run_world(void)
+{
+    int i;
+
+    pool = one_in(8) ? (UINT64_C(1) << 48) - VMSA_POOL_LIMIT : 0x40000000u;
+    regime = random_regime();
+    memset(memory, 0, sizeof memory);
+    build_tables();
+    memset(&session, 0xAA, sizeof session);
+    vmsa_session_empty(&session);
+    while (!one_in(8))
+        set_regime();
+    for (i = 0; i < CALLS; i++) {
+        call();
+        if (i % 50 == 0) {
+            add(&session, sizeof session);
+            add(memory, sizeof memory);
+        }
+    }
+}
+
+int main(void)
+{
+    int i;
+
+    for (i = 0; i < WORLDS; i++)
+        run_world();
+    printf("%u successes (%u set the Access flag, %u marked dirty), %u faults, "
+           "%u of both from an entry\n",
+           successes, accessed, dirtied, faults, held);
+    printf("%u accepted; refused 1 to 9:", accepted);
+    for (i = 1; i < 10; i++)
+        printf(" %u", refusals[i]);
+    printf("\n%d random calls, digest 0x%016" PRIx64 "\n", WORLDS * CALLS,
+           digest);
+    return 0;
+}

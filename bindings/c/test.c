@@ -1,0 +1,821 @@
+/*
+ * Runs the library over the worked cases P1 to P12, every refusal, a script of
+ * a session, the spare bytes, VMSA_REGIME_INIT and the texts; prints how many
+ * checks were made, and how many failed.
+ *
+ * Each call goes through one of the expect functions. It takes what the call
+ * is given and its answer; want has what the call is to leave of memory and
+ * session. Every byte of the three is compared. A reader of a file of cases
+ * can use them in the same way.
+ */
+#include <stdio.h>
+#include <string.h>
+
+#include "vmsa.h"
+
+#define POOL UINT64_C(0x40000000)  /* physical address of the pool */
+#define THIRD UINT64_C(0x40002010) /* of the level 2 descriptor */
+#define LEAF UINT64_C(0x40003018)  /* of the leaf descriptor of page 0x403 */
+#define PAGE 0x403
+#define ADDRESS UINT64_C(0x403ABC)
+#define FRAME UINT64_C(0x80005000)
+
+#define TABLE UINT64_C(0x40003003) /* the level 2 descriptor */
+#define CLEAN UINT64_C(0x00080000800053C3) /* the leaf: writable-clean, AF 0 */
+#define READ UINT64_C(0x00080000800057C3)  /* the leaf after a read */
+#define DIRTY UINT64_C(0x0008000080005743) /* the leaf after a write */
+
+#define LIMIT48 (UINT64_C(1) << 48)
+
+/*
+ * What the calls are lent, and what it is to be afterwards. The memory starts
+ * at an odd address, between two guards.
+ */
+#define GUARD 63
+
+static struct world {
+    uint8_t room[GUARD + VMSA_MEMORY_LIMIT + 1 + GUARD];
+    size_t length;
+    struct vmsa_session session;
+} lent, want;
+
+/* Checks */
+
+static unsigned checks, failures;
+
+static void check(const char *name, const char *part, int ok)
+{
+    checks++;
+    if (ok)
+        return;
+    failures++;
+    printf("%s: %s\n", name, part);
+}
+
+static void check_bytes(const char *name, const char *part, const void *got,
+                        const void *expected, size_t size)
+{
+    const uint8_t *a = (const uint8_t *)got, *b = (const uint8_t *)expected;
+    size_t i = 0;
+
+    check(name, part, memcmp(a, b, size) == 0);
+    while (i < size && a[i] == b[i])
+        i++;
+    if (i < size)
+        printf("    byte %lu is 0x%02x and not 0x%02x\n", (unsigned long)i,
+               (unsigned)a[i], (unsigned)b[i]);
+}
+
+static void check_world(const char *name)
+{
+    check_bytes(name, "memory", lent.room, want.room,
+                GUARD + lent.length + GUARD);
+    check_bytes(name, "session", &lent.session, &want.session,
+                sizeof lent.session);
+}
+
+static uint8_t *memory(void)
+{
+    return lent.length == 0 ? NULL : lent.room + GUARD;
+}
+
+static void expect_walk(const char *name, struct vmsa_regime regime,
+                        struct vmsa_access access, struct vmsa_answer answer)
+{
+    struct vmsa_answer got;
+    const struct vmsa_regime regime_before = regime;
+    const struct vmsa_access access_before = access;
+
+    memset(&got, 0xAA, sizeof got);
+    vmsa_walk(memory(), lent.length, &regime, &access, &got);
+    check_bytes(name, "answer", &got, &answer, sizeof got);
+    check_bytes(name, "regime", &regime, &regime_before, sizeof regime);
+    check_bytes(name, "access", &access, &access_before, sizeof access);
+    check_world(name);
+}
+
+static void expect_access(const char *name, struct vmsa_access access,
+                          struct vmsa_answer answer)
+{
+    struct vmsa_answer got;
+    const struct vmsa_access before = access;
+
+    memset(&got, 0xAA, sizeof got);
+    vmsa_session_access(&lent.session, memory(), lent.length, &access, &got);
+    check_bytes(name, "answer", &got, &answer, sizeof got);
+    check_bytes(name, "access", &access, &before, sizeof access);
+    check_world(name);
+}
+
+static void expect_set(const char *name, struct vmsa_regime regime,
+                       unsigned refusal)
+{
+    const struct vmsa_regime before = regime;
+    uint8_t got = vmsa_session_set_regime(&lent.session, memory(), lent.length,
+                                          &regime);
+
+    check(name, "reply", got == refusal);
+    check_bytes(name, "regime", &regime, &before, sizeof regime);
+    check_world(name);
+}
+
+static void expect_store(const char *name, uint64_t address, uint64_t value,
+                         unsigned refusal)
+{
+    uint8_t got = vmsa_session_store(&lent.session, memory(), lent.length,
+                                     address, value);
+
+    check(name, "reply", got == refusal);
+    check_world(name);
+}
+
+static void expect_invalidate(const char *name)
+{
+    vmsa_session_invalidate_all(&lent.session);
+    check_world(name);
+}
+
+/* Accesses and answers */
+
+static struct vmsa_access access_of(unsigned kind, uint64_t address,
+                                    uint64_t size)
+{
+    struct vmsa_access access = { 0 };
+
+    access.address = address;
+    access.size = size;
+    access.el0 = 1;
+    access.kind = (uint8_t)kind;
+    return access;
+}
+
+static struct vmsa_access a_read(void)
+{
+    return access_of(VMSA_READ, ADDRESS, 4);
+}
+
+static struct vmsa_access a_write(void)
+{
+    return access_of(VMSA_WRITE, ADDRESS, 4);
+}
+
+#define AF 1    /* the access sets the Access flag */
+#define DIRTIED 2
+#define UNKEPT 4 /* a TLB may not hold it */
+
+static struct vmsa_answer found(uint64_t output, unsigned marks, uint8_t reads)
+{
+    struct vmsa_answer answer = { 0 };
+
+    answer.output = output;
+    answer.tag = VMSA_SUCCESS;
+    answer.level = 3;
+    answer.attribute = 0xFF;
+    answer.shareability = 3;
+    answer.accessed = (marks & AF) != 0;
+    answer.dirtied = (marks & DIRTIED) != 0;
+    answer.cacheable = (marks & UNKEPT) == 0;
+    answer.reads = reads;
+    return answer;
+}
+
+static struct vmsa_answer fault(unsigned code, unsigned level, uint8_t reads)
+{
+    struct vmsa_answer answer = { 0 };
+
+    answer.tag = VMSA_FAULT;
+    answer.code = (uint16_t)code;
+    answer.level = (uint8_t)level;
+    answer.reads = reads;
+    return answer;
+}
+
+static struct vmsa_answer refused(unsigned number)
+{
+    struct vmsa_answer answer = { 0 };
+
+    answer.tag = VMSA_REFUSED;
+    answer.refusal = (uint8_t)number;
+    return answer;
+}
+
+/* The world of the worked cases */
+
+static struct vmsa_regime worked_regime(void)
+{
+    struct vmsa_regime regime = VMSA_REGIME_INIT;
+
+    regime.length = VMSA_POOL_LIMIT;
+    regime.address = POOL;
+    regime.root0 = POOL;
+    regime.root1 = POOL;
+    regime.disabled0 = 0;
+    regime.disabled1 = 0;
+    regime.ha = 1;
+    regime.hd = 1;
+    regime.attributes = UINT64_MAX;
+    return regime;
+}
+
+/* A descriptor at an address of the pool. */
+static void put(struct world *world, uint64_t address, uint64_t value)
+{
+    int i;
+
+    for (i = 0; i < 8; i++)
+        world->room[GUARD + (address - POOL) + (uint64_t)i] =
+            (uint8_t)(value >> (8 * i));
+}
+
+/* A descriptor to start from: before a call and after it. */
+static void given(uint64_t address, uint64_t value)
+{
+    put(&lent, address, value);
+    put(&want, address, value);
+}
+
+/* The memory of the worked cases, exactly the pool, and the fresh session. */
+static void fresh(void)
+{
+    const struct vmsa_regime init = VMSA_REGIME_INIT;
+
+    memset(&want, 0, sizeof want);
+    memset(want.room, 0x5A, GUARD);
+    memset(want.room + GUARD + VMSA_POOL_LIMIT, 0x5A,
+           sizeof want.room - GUARD - VMSA_POOL_LIMIT);
+    want.length = VMSA_POOL_LIMIT;
+    want.session.regime = init;
+    put(&want, POOL, 0x40001003);
+    put(&want, 0x40001000, 0x40002003);
+    put(&want, THIRD, TABLE);
+    put(&want, LEAF, CLEAN);
+    lent = want;
+    vmsa_session_empty(&lent.session);
+}
+
+/* What the session is to hold of a page whose leaf is at level 3. */
+static void holds(uint64_t page, uint64_t leaf)
+{
+    struct vmsa_entry *entry = &want.session.entries[page % VMSA_ENTRIES];
+
+    memset(entry, 0, sizeof *entry);
+    entry->page = page;
+    entry->value = leaf;
+    entry->held = 1;
+}
+
+static void holds_nothing(void)
+{
+    memset(want.session.entries, 0, sizeof want.session.entries);
+}
+
+/* A session under the worked regime that holds the page, once read. */
+static void started(void)
+{
+    fresh();
+    want.session.regime = worked_regime();
+    want.session.set = 1;
+    expect_set("start", worked_regime(), VMSA_ACCEPTED);
+    put(&want, LEAF, READ);
+    holds(PAGE, READ);
+    expect_access("start", a_read(), found(FRAME + 0xABC, AF, 4));
+}
+
+/* P1 to P12 */
+
+struct worked {
+    const char *name;
+    uint64_t third, leaf;              /* the last two descriptors */
+    uint8_t output, ha, hd, attribute; /* of the regime; attribute byte 0 */
+    unsigned kind;
+    uint64_t address, size;
+    uint8_t tag;
+    unsigned result;                   /* marks, fault code or refusal */
+    uint64_t after;                    /* the leaf afterwards */
+};
+
+static const struct worked worked[] = {
+    { "P1", TABLE, CLEAN, 5, 1, 1, 0xFF, VMSA_READ, 0x403ABC, 4,
+      VMSA_SUCCESS, AF, READ },
+    { "P2", TABLE, CLEAN, 5, 1, 1, 0xFF, VMSA_WRITE, 0x403ABC, 4,
+      VMSA_SUCCESS, AF | DIRTIED, DIRTY },
+    { "P3", TABLE, CLEAN, 5, 1, 1, 0xFF, VMSA_PROBE_WRITE, 0x403ABC, 1,
+      VMSA_SUCCESS, UNKEPT, CLEAN },
+    { "P3, size 4", TABLE, CLEAN, 5, 1, 1, 0xFF, VMSA_PROBE_WRITE, 0x403ABC, 4,
+      VMSA_REFUSED, 6, CLEAN },
+    { "P4", TABLE, CLEAN, 5, 1, 0, 0xFF, VMSA_WRITE, 0x403ABC, 4,
+      VMSA_FAULT, 15, CLEAN },
+    { "P5", TABLE, CLEAN, 5, 0, 1, 0xFF, VMSA_WRITE, 0x403ABC, 4,
+      VMSA_FAULT, 11, CLEAN },
+    { "P6", 0x4000F003, CLEAN, 5, 1, 1, 0xFF, VMSA_READ, 0x403ABC, 4,
+      VMSA_FAULT, 7, CLEAN },
+    { "P7", 0x40010003, CLEAN, 5, 1, 1, 0xFF, VMSA_READ, 0x403ABC, 4,
+      VMSA_FAULT, 23, CLEAN },
+    { "P8", TABLE, UINT64_C(0x00080001000003C3), 0, 1, 1, 0xFF, VMSA_READ,
+      0x403ABC, 4, VMSA_FAULT, 3, UINT64_C(0x00080001000003C3) },
+    { "P9", TABLE, CLEAN & ~UINT64_C(2), 5, 1, 1, 0xFF, VMSA_READ, 0x403ABC, 4,
+      VMSA_FAULT, 7, CLEAN & ~UINT64_C(2) },
+    { "P10", TABLE, CLEAN, 5, 1, 1, 0x00, VMSA_READ, 0x403ABD, 2,
+      VMSA_FAULT, 33, CLEAN },
+    { "P11", TABLE, CLEAN, 5, 1, 1, 0xFF, VMSA_READ, 0x403FFC, 4,
+      VMSA_SUCCESS, AF, READ },
+    { "P11, next", TABLE, CLEAN, 5, 1, 1, 0xFF, VMSA_READ, 0x403FFD, 4,
+      VMSA_REFUSED, 7, CLEAN }
+};
+
+/* Each that is walked ends at level 3, after 4 reads. */
+static struct vmsa_answer worked_answer(const struct worked *row)
+{
+    switch (row->tag) {
+    case VMSA_SUCCESS:
+        return found(FRAME + (row->address & 0xFFF), row->result, 4);
+    case VMSA_FAULT:
+        return fault(row->result, 3, 4);
+    default:
+        return refused(row->result);
+    }
+}
+
+static void test_worked(void)
+{
+    size_t i;
+
+    for (i = 0; i < sizeof worked / sizeof worked[0]; i++) {
+        const struct worked *row = &worked[i];
+        struct vmsa_regime regime = worked_regime();
+
+        regime.output = row->output;
+        regime.ha = row->ha;
+        regime.hd = row->hd;
+        regime.attributes = UINT64_MAX << 8 | row->attribute;
+        fresh();
+        given(THIRD, row->third);
+        given(LEAF, row->leaf);
+        put(&want, LEAF, row->after);
+        expect_walk(row->name, regime,
+                    access_of(row->kind, row->address, row->size),
+                    worked_answer(row));
+    }
+}
+
+static void test_worked_pool(void)
+{
+    struct vmsa_regime regime = worked_regime();
+
+    /* P6 reads at 0x4000F018: a leaf there is found. */
+    fresh();
+    given(THIRD, 0x4000F003);
+    given(0x4000F018, CLEAN);
+    put(&want, 0x4000F018, READ);
+    expect_walk("P6, a leaf", regime, a_read(), found(FRAME + 0xABC, AF, 4));
+
+    fresh();
+    lent.length = 69632;
+    put(&want, LEAF, READ);
+    expect_walk("P12", regime, a_read(), found(FRAME + 0xABC, AF, 4));
+    regime.length = 69632;
+    expect_walk("P12, next", regime, a_read(), refused(1));
+}
+
+/* Refusals */
+
+/* A regime that a walk and a session refuse, over a memory of length bytes. */
+static void refuses(const char *name, unsigned number, size_t length,
+                    struct vmsa_regime regime)
+{
+    started();
+    lent.length = length;
+    expect_set(name, regime, number);
+    expect_walk(name, regime, a_read(), refused(number));
+}
+
+static void test_refused_pool(void)
+{
+    struct vmsa_regime regime = worked_regime();
+
+    refuses("memory above its limit", 1, VMSA_MEMORY_LIMIT + 1, regime);
+    refuses("no memory", 1, 0, regime);
+    refuses("pool past the memory", 1, VMSA_POOL_LIMIT - 1, regime);
+    regime.start = 4096;
+    refuses("pool past the memory, moved", 1, VMSA_POOL_LIMIT + 4095, regime);
+    regime.start = SIZE_MAX - 4095;
+    refuses("pool past the memory, wrapped", 1, VMSA_POOL_LIMIT, regime);
+    regime.start = 8;
+    refuses("start", 1, 2 * VMSA_POOL_LIMIT, regime);
+    regime.start = 0;
+    regime.length = 0;
+    refuses("empty pool", 1, VMSA_POOL_LIMIT, regime);
+    regime.length = 4095;
+    refuses("pool length", 1, VMSA_POOL_LIMIT, regime);
+
+    regime = worked_regime();
+    regime.address = POOL + 8;
+    refuses("pool address", 2, VMSA_POOL_LIMIT, regime);
+    regime.address = LIMIT48 - VMSA_POOL_LIMIT + 4096;
+    refuses("pool above 2^48", 2, VMSA_POOL_LIMIT, regime);
+    regime.address = ~UINT64_C(4095);
+    refuses("pool above 2^48, wrapped", 2, VMSA_POOL_LIMIT, regime);
+}
+
+static void test_refused_sizes(void)
+{
+    static const uint8_t sizes[] = { 0, 15, 40, 255 };
+    struct vmsa_regime regime;
+    size_t i;
+
+    for (i = 0; i < sizeof sizes; i++) {
+        regime = worked_regime();
+        regime.tsz0 = sizes[i];
+        refuses("tsz0", 3, VMSA_POOL_LIMIT, regime);
+        regime = worked_regime();
+        regime.tsz1 = sizes[i];
+        regime.disabled1 = 1;
+        refuses("tsz1", 3, VMSA_POOL_LIMIT, regime);
+    }
+    regime = worked_regime();
+    regime.output = 6;
+    refuses("output", 3, VMSA_POOL_LIMIT, regime);
+}
+
+static void test_refused_roots(void)
+{
+    static const uint64_t roots[] = { POOL + 8, LIMIT48, ~UINT64_C(4095) };
+    struct vmsa_regime regime;
+    size_t i;
+
+    for (i = 0; i < sizeof roots / sizeof roots[0]; i++) {
+        regime = worked_regime();
+        regime.root0 = roots[i];
+        refuses("root0", 4, VMSA_POOL_LIMIT, regime);
+        regime = worked_regime();
+        regime.root1 = roots[i];
+        regime.disabled1 = 1;
+        refuses("root1", 4, VMSA_POOL_LIMIT, regime);
+    }
+}
+
+static void test_refused_attributes(void)
+{
+    static const uint8_t attributes[] = { 0x01, 0x0F, 0x10, 0xF0 };
+    size_t i, byte;
+
+    for (i = 0; i < sizeof attributes; i++)
+        for (byte = 0; byte < 8; byte++) {
+            struct vmsa_regime regime = worked_regime();
+
+            regime.attributes &= ~(UINT64_C(0xFF) << (8 * byte));
+            regime.attributes |= (uint64_t)attributes[i] << (8 * byte);
+            refuses("attributes", 5, VMSA_POOL_LIMIT, regime);
+        }
+}
+
+/* An access that a walk and a session refuse. */
+static void refuses_access(const char *name, unsigned number,
+                           struct vmsa_access access)
+{
+    started();
+    expect_access(name, access, refused(number));
+    expect_walk(name, worked_regime(), access, refused(number));
+}
+
+static void test_refused_access(void)
+{
+    static const uint64_t sizes[] = { 0, 3, 5, 15, 32, UINT64_MAX };
+    size_t i;
+
+    for (i = 0; i < sizeof sizes / sizeof sizes[0]; i++)
+        refuses_access("size", 6, access_of(VMSA_READ, ADDRESS, sizes[i]));
+    refuses_access("fetch, size", 6, access_of(VMSA_FETCH, ADDRESS, 8));
+    refuses_access("fetch, address", 6, access_of(VMSA_FETCH, ADDRESS + 2, 4));
+    refuses_access("probe-read, size", 6,
+                   access_of(VMSA_PROBE_READ, ADDRESS, 2));
+    refuses_access("probe-write, size", 6,
+                   access_of(VMSA_PROBE_WRITE, ADDRESS, 2));
+    refuses_access("two pages", 7, access_of(VMSA_READ, 0x403FFF, 2));
+    refuses_access("two pages, wrapped", 7,
+                   access_of(VMSA_READ, UINT64_MAX, 2));
+}
+
+static void test_refused_calls(void)
+{
+    static const uint64_t addresses[] = {
+        LEAF + 4, POOL - 8, POOL + VMSA_POOL_LIMIT, 0, ~UINT64_C(7)
+    };
+    size_t i;
+
+    started();
+    for (i = 0; i < sizeof addresses / sizeof addresses[0]; i++)
+        expect_store("store, address", addresses[i], 1, 8);
+
+    fresh();
+    expect_access("access, no regime", a_read(), refused(9));
+    expect_store("store, no regime", LEAF, 1, 9);
+
+    started();
+    lent.length = VMSA_POOL_LIMIT - 1;
+    expect_access("access, short memory", a_read(), refused(1));
+    expect_store("store, short memory", LEAF, 1, 1);
+    lent.length = 0;
+    expect_access("access, no memory", a_read(), refused(1));
+    expect_store("store, no memory", LEAF, 1, 1);
+}
+
+/* A call with every mistake; mended one by one, the numbers come in order. */
+static void test_refusal_order(void)
+{
+    struct vmsa_regime regime = VMSA_REGIME_INIT;
+    struct vmsa_access access = access_of(VMSA_READ, 0x403FFF, 3);
+    const struct vmsa_regime good = worked_regime();
+
+    fresh();
+    regime.address = 8;
+    regime.tsz0 = 15;
+    regime.root1 = 8;
+    regime.attributes = 1;
+    expect_walk("order 1", regime, access, refused(1));
+    regime.length = good.length;
+    expect_walk("order 2", regime, access, refused(2));
+    regime.address = good.address;
+    expect_walk("order 3", regime, access, refused(3));
+    regime.tsz0 = good.tsz0;
+    expect_walk("order 4", regime, access, refused(4));
+    regime.root1 = good.root1;
+    expect_walk("order 5", regime, access, refused(5));
+    regime = good;
+    expect_walk("order 6", regime, access, refused(6));
+    access.size = 2;
+    expect_walk("order 7", regime, access, refused(7));
+    access.size = 1;
+    put(&want, LEAF, READ);
+    expect_walk("order, mended", regime, access, found(FRAME + 0xFFF, AF, 4));
+}
+
+/* A session */
+
+static void test_script(void)
+{
+    const uint64_t output = FRAME + 0xABC;
+
+    started();
+    expect_access("second read", a_read(), found(output, 0, 0));
+    put(&want, LEAF, DIRTY);
+    holds(PAGE, DIRTY);
+    expect_access("first write", a_write(), found(output, DIRTIED, 4));
+    expect_access("second write", a_write(), found(output, 0, 0));
+    put(&want, LEAF, 0);
+    expect_store("store", LEAF, 0, VMSA_ACCEPTED);
+    expect_access("after a store", a_write(), found(output, 0, 0));
+    holds_nothing();
+    expect_invalidate("invalidate");
+    expect_access("after an invalidate", a_write(), fault(7, 3, 4));
+    expect_access("and again", a_write(), fault(7, 3, 4));
+
+    put(&want, LEAF, CLEAN);
+    expect_store("store again", LEAF, CLEAN, VMSA_ACCEPTED);
+    put(&want, LEAF, DIRTY);
+    holds(PAGE, DIRTY);
+    expect_access("write, cold", a_write(), found(output, AF | DIRTIED, 4));
+    holds_nothing();
+    expect_set("set again", worked_regime(), VMSA_ACCEPTED);
+    holds(PAGE, DIRTY);
+    expect_access("after a set", a_write(), found(output, 0, 4));
+}
+
+/* What fills an entry, and what does not. */
+static void test_entries(void)
+{
+    const uint64_t far = ADDRESS + (uint64_t)VMSA_ENTRIES * 4096;
+    const uint64_t far_leaf = LEAF + VMSA_ENTRIES * 8;
+    struct vmsa_answer held = fault(15, 3, 0);
+
+    started();
+    held.cacheable = 1;
+    expect_access("fetch, held", access_of(VMSA_FETCH, ADDRESS, 4),
+                  found(FRAME + 0xABC, 0, 0));
+    given(far_leaf, CLEAN);
+    expect_access("probe, not kept", access_of(VMSA_PROBE_READ, far, 1),
+                  found(FRAME + 0xABC, UNKEPT, 4));
+    put(&want, far_leaf, READ);
+    holds(PAGE + VMSA_ENTRIES, READ);
+    expect_access("same entry", access_of(VMSA_READ, far, 8),
+                  found(FRAME + 0xABC, AF, 4));
+    holds(PAGE, READ);
+    expect_access("page again", a_read(), found(FRAME + 0xABC, 0, 4));
+
+    /* A page of EL1 alone: the fault is answered from the entry. */
+    given(far_leaf, READ & ~UINT64_C(0x40));
+    holds(PAGE + VMSA_ENTRIES, READ & ~UINT64_C(0x40));
+    held.reads = 4;
+    expect_access("fault, kept", access_of(VMSA_READ, far, 4), held);
+    held.reads = 0;
+    expect_access("fault, held", access_of(VMSA_READ, far, 4), held);
+}
+
+/* Bytes that no caller should pass have a meaning too. */
+static void test_odd_values(void)
+{
+    struct vmsa_regime regime = worked_regime();
+    struct vmsa_access access = a_write();
+
+    regime.ha = 0x80;
+    regime.hd = 2;
+    access.el0 = 0x40;
+    fresh();
+    put(&want, LEAF, DIRTY);
+    expect_walk("flags", regime, access,
+                found(FRAME + 0xABC, AF | DIRTIED, 4));
+
+    fresh();
+    want.session.regime = worked_regime();
+    want.session.set = 1;
+    expect_set("flags", regime, VMSA_ACCEPTED);
+
+    fresh();
+    access.kind = 6;
+    put(&want, LEAF, DIRTY);
+    expect_walk("kind 6", regime, access,
+                found(FRAME + 0xABC, AF | DIRTIED, 4));
+
+    fresh();
+    memset(&lent.session, 0xAA, sizeof lent.session);
+    want.session = lent.session;
+    expect_access("any bytes", access, refused(1));
+    expect_store("any bytes", LEAF, 1, 1);
+}
+
+/* Spare bytes */
+
+static void test_spare_given(void)
+{
+    struct vmsa_regime regime = worked_regime();
+    struct vmsa_access access = a_read();
+
+    memset(regime.spare, 0xAA, sizeof regime.spare);
+    memset(access.spare, 0xAA, sizeof access.spare);
+    fresh();
+    put(&want, LEAF, READ);
+    expect_walk("spare, walk", regime, access, found(FRAME + 0xABC, AF, 4));
+
+    fresh();
+    want.session.regime = worked_regime();
+    want.session.set = 1;
+    expect_set("spare, set", regime, VMSA_ACCEPTED);
+    put(&want, LEAF, READ);
+    holds(PAGE, READ);
+    expect_access("spare, miss", access, found(FRAME + 0xABC, AF, 4));
+    expect_access("spare, hit", access, found(FRAME + 0xABC, 0, 0));
+}
+
+/* A started session with something in every spare byte. */
+static void started_spare(void)
+{
+    size_t i;
+
+    started();
+    memset(lent.session.regime.spare, 0xAA, sizeof lent.session.regime.spare);
+    memset(lent.session.spare, 0xAA, sizeof lent.session.spare);
+    for (i = 0; i < VMSA_ENTRIES; i++)
+        memset(lent.session.entries[i].spare, 0xAA,
+               sizeof lent.session.entries[i].spare);
+    want.session = lent.session;
+}
+
+/* They have no say, and what a call leaves alone it leaves byte for byte. */
+static void test_spare_session(void)
+{
+    started_spare();
+    expect_access("spare, held", a_read(), found(FRAME + 0xABC, 0, 0));
+    expect_access("spare, fault", access_of(VMSA_READ, 0x404000, 4),
+                  fault(7, 3, 4));
+    expect_access("spare, refused", access_of(VMSA_READ, ADDRESS, 3),
+                  refused(6));
+    put(&want, LEAF, CLEAN | 0x400);
+    expect_store("spare, store", LEAF, CLEAN | 0x400, VMSA_ACCEPTED);
+    put(&want, LEAF, DIRTY);
+    holds(PAGE, DIRTY);
+    expect_access("spare, filled", a_write(),
+                  found(FRAME + 0xABC, DIRTIED, 4));
+    holds_nothing();
+    expect_invalidate("spare, emptied");
+}
+
+static void test_spare_set(void)
+{
+    struct vmsa_regime bad = worked_regime();
+
+    started_spare();
+    bad.tsz0 = 0;
+    expect_set("spare, refused regime", bad, 3);
+    holds_nothing();
+    want.session.regime = worked_regime();
+    memset(want.session.spare, 0, sizeof want.session.spare);
+    expect_set("spare, regime", worked_regime(), VMSA_ACCEPTED);
+}
+
+/* The session's bytes before have no say in the fresh one. */
+static void test_empty(void)
+{
+    static const int fills[] = { 0x00, 0x55, 0xAA, 0xFF };
+    size_t i;
+
+    fresh();
+    for (i = 0; i < sizeof fills / sizeof fills[0]; i++) {
+        memset(&lent.session, fills[i], sizeof lent.session);
+        vmsa_session_empty(&lent.session);
+        check_world("empty session");
+    }
+}
+
+static void test_init(void)
+{
+    struct vmsa_regime regime = VMSA_REGIME_INIT;
+    struct vmsa_regime zeroed = { 0 };
+
+    refuses("init, no pool", 1, VMSA_POOL_LIMIT, regime);
+    regime.length = VMSA_POOL_LIMIT;
+    zeroed.length = VMSA_POOL_LIMIT;
+    refuses("zeroed", 3, VMSA_POOL_LIMIT, zeroed);
+
+    fresh();
+    expect_walk("init, range 0", regime, a_read(), fault(4, 0, 0));
+    expect_walk("init, range 1", regime,
+                access_of(VMSA_READ, ~UINT64_C(0xFFF), 4), fault(4, 0, 0));
+    want.session.regime = regime;
+    want.session.set = 1;
+    expect_set("init, set", regime, VMSA_ACCEPTED);
+}
+
+/* Texts */
+
+static void test_refusal_texts(void)
+{
+    const char *unknown = vmsa_refusal_text(10);
+    unsigned i, j;
+
+    check("texts", "10", strcmp(unknown, "unknown refusal") == 0);
+    check("texts", "256", vmsa_refusal_text(256) == unknown);
+    check("texts", "0", strcmp(vmsa_refusal_text(0), "accepted") == 0);
+    for (i = 0; i < 10; i++)
+        for (j = i + 1; j <= 10; j++)
+            check("texts", "two refusals with one text",
+                  strcmp(vmsa_refusal_text(i), vmsa_refusal_text(j)) != 0);
+}
+
+static const char *fault_name(unsigned code)
+{
+    switch (code & ~3u) {
+    case VMSA_ADDRESS_SIZE_FAULT:
+        return "Address size fault";
+    case VMSA_TRANSLATION_FAULT:
+        return "Translation fault";
+    case VMSA_ACCESS_FLAG_FAULT:
+        return "Access flag fault";
+    case VMSA_PERMISSION_FAULT:
+        return "Permission fault";
+    case VMSA_EXTERNAL_ABORT:
+        return "Synchronous External abort on translation table walk";
+    default:
+        return NULL;
+    }
+}
+
+static void test_fault_texts(void)
+{
+    unsigned code;
+
+    for (code = 0; code <= 300; code++) {
+        char expected[80] = "unknown fault";
+
+        if (code == VMSA_ALIGNMENT_FAULT)
+            strcpy(expected, "Alignment fault");
+        else if (fault_name(code) != NULL)
+            sprintf(expected, "%s, level %u", fault_name(code), code & 3);
+        check("texts", expected, strcmp(vmsa_fault_text(code), expected) == 0);
+    }
+}
+
+int main(void)
+{
+    check("library", "version", vmsa_version() == VMSA_VERSION);
+    test_worked();
+    test_worked_pool();
+    test_refused_pool();
+    test_refused_sizes();
+    test_refused_roots();
+    test_refused_attributes();
+    test_refused_access();
+    test_refused_calls();
+    test_refusal_order();
+    test_script();
+    test_entries();
+    test_odd_values();
+    test_spare_given();
+    test_spare_session();
+    test_spare_set();
+    test_empty();
+    test_init();
+    test_refusal_texts();
+    test_fault_texts();
+    printf("%u checks, %u failed\n", checks, failures);
+    return failures != 0;
+}
