@@ -1,4 +1,4 @@
--- Calls of a session one after another, by any functions (01, "The session").
+-- Calls of a session one after another, by any functions (RULES 11).
 use Prim.Native.Nat.{ℕ}
 use mathlib.Core.Bool.{Bool, true, false}
 use mathlib.Core.List.{List, [], _∷_}

@@ -1,4 +1,4 @@
--- The functions of a session, by value: each call by what the function's own contract tells its caller.
+-- Rule 1 (RULES 13) of the functions of a session, by value: each call by what the function's own contract tells its caller.
 use Prim.Native.Nat.{ℕ}
 use mathlib.Core.List.{List}
 use contract.Lifetimes.{Lfts}

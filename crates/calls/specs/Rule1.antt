@@ -1,5 +1,5 @@
--- Rule 1 of the letter for the calls of a session: any session, any memory, any call; and every list of calls.
--- That every call gets an answer and ends is the code's contract, which asks nothing of its caller (`..-free` in proofs/Promises.antt of session and capi).
+-- Rule 1 (RULES 13) for the calls of a session: any session, any memory, any call; and every list of calls.
+-- That every call gets an answer and ends is the code's contract, which asks nothing of its caller (`..-free` in proofs/Promises.antt of session, lent, capi_walk and capi_session).
 use Prim.Native.Nat.{ℕ, _+_, _<_, _≤_}
 use mathlib.Core.Bool.{Bool, true, false}
 use mathlib.Core.List.{List, [], _∷_, _++_, map}
@@ -25,8 +25,7 @@ abbrev pub underRegime : Option Regime → (Regime → List (Bool × Refusal)) �
 underRegime none rows = (true, NoRegime) ∷ []
 underRegime (some r) rows = (false, NoRegime) ∷ rows r
 
--- the rows of a call over n bytes of memory in a session with the regime g, in the order of the checks (01, "When the walker says no"):
--- a set regime 1 to 5; an access 9, 1, 6, 7; a store 9, 1, 8; a drop all none
+-- the rows of a call over n bytes of memory in a session with the regime g, in the order of the checks (RULES 5.3)
 abbrev pub rowsOf : ℕ → Option Regime → Call → List (Bool × Refusal)
 rowsOf n g (setRegime r) = regimeRows n r
 rowsOf n g (access a) = underRegime g (λ (r : Regime). memoryRows n (r .pool) ++ accessRows a)
@@ -49,7 +48,7 @@ Reach g dropAll i = ⊥
 
 -- what its event shows, g being the session's regime
 pub record Rule1Event (g : Option Regime) (e : Event) : Type 0 where
-  -- a refusal is given exactly where the documents' table says, with the number of the first row that applies
+  -- a refusal is given exactly where the table (RULES 5) says, with the number of the first row that applies
   pub refusals : (k : ℕ) → (e .reply ≡ refused k) ↔ FirstNumber (rowsOf (length (e .found)) g (e .made)) k
   -- and changes no byte
   pub kept : (k : ℕ) → e .reply ≡ refused k → e .left ≡ e .found

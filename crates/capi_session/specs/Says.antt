@@ -1,4 +1,4 @@
--- What each C function of a session tells whoever called it: of what its pointers named before the call, what they name after it (with a
+-- What each C function of a session (RULES 10 and 15) tells whoever called it: of what its pointers named before the call, what they name after it (with a
 -- dash, or w for the answer), and what it returned. proofs/Promises.antt has that each function's own contract says this.
 use Prim.Native.Nat.{ℕ}
 use mathlib.Core.List.{List}

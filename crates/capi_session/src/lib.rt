@@ -20,7 +20,7 @@ pub extern "C" fn vmsa_session_empty(session: &mut Session)
     *session = Session::empty();
 }
 
-// Sets the regime of the lent session: 0, or the number of the refusal, 1 to 5.
+// Sets the regime of the lent session: 0, or the number of the refusal.
 #[no_mangle]
 pub extern "C" fn vmsa_session_set_regime(
     session: &mut Session,
@@ -67,7 +67,7 @@ pub extern "C" fn vmsa_session_access(
     *answer = filled.answer;
 }
 
-// Stores one descriptor at a physical address: 0, or the number of the refusal, 9, 1 or 8.
+// Stores one descriptor at a physical address: 0, or the number of the refusal.
 #[no_mangle]
 pub extern "C" fn vmsa_session_store(
     session: &mut Session,

@@ -1,4 +1,4 @@
--- What vmsa_walk tells whoever called it: of what its pointers named before the call, and what they name after it (with a dash, or w).
+-- What vmsa_walk (RULES 6 and 15) tells whoever called it: of what its pointers named before the call, and what they name after it (with a dash, or w).
 -- proofs/Promises.antt has that the function's own contract says this.
 use Prim.Native.Nat.{ℕ}
 use mathlib.Core.List.{List}

@@ -1,4 +1,4 @@
--- The worked cases P1 to P12 as one table under one claim (01, "Numbers to hold against it").
+-- The worked cases P1 to P12 as one table under one claim (RULES 12).
 use Prim.Native.Nat.{ℕ, _*_, _-_}
 use mathlib.Core.Bool.{Bool, true, false}
 use mathlib.Core.List.{List, [], _∷_, _++_}

@@ -59,7 +59,7 @@ pub record Shaped (a : Access) : Type 0 where
   pub positive : 0 < a .size
   pub one-page : pageOf pageBits (a .address .0) ≡ pageOf pageBits (lastByte a)
 
--- of a regime over n bytes (rows 1 to 5)
+-- of a regime over n bytes
 pub record Settled (n : ℕ) (r : Regime) : Type 0 where
   pub pool : Pooled n (r .pool)
   pub address : Addressed (r .pool)

@@ -1,4 +1,4 @@
--- The order in which a call is checked: the first test that applies gives the refusal (01, "When the walker says no").
+-- The order in which a call is checked: the first test that applies gives the refusal (RULES 5.3).
 use Prim.Native.Nat.{ℕ}
 use mathlib.Core.Bool.{Bool}
 use mathlib.Core.List.{List, [], _∷_, _++_}
@@ -20,28 +20,28 @@ firstBefore (row ∷ rows) rest = pick (row .0) (Refused (row .1)) (firstBefore 
 abbrev pub firstOf : List (Bool × Refusal) → Checked
 firstOf rows = firstBefore rows Accepted
 
--- the memory and the pool: 1
+-- the memory and the pool
 abbrev pub memoryRows : ℕ → Pool → List (Bool × Refusal)
 memoryRows n pool = (memoryPoolBad n pool, MemoryPool) ∷ []
 
--- the other settings of a regime: 2 to 5
+-- the other settings of a regime
 abbrev pub settingRows : Regime → List (Bool × Refusal)
 settingRows r =
     (poolAddressBad (r .pool), PoolAddress) ∷ (sizesBad r, Sizes) ∷ (rootsBad r, Root) ∷ (attributesBad (r .attributes), Attributes) ∷ []
 
--- setting a regime over n bytes of memory: 1 to 5
+-- setting a regime over n bytes of memory
 abbrev pub regimeRows : ℕ → Regime → List (Bool × Refusal)
 regimeRows n r = memoryRows n (r .pool) ++ settingRows r
 
--- an access: 6 and 7
+-- an access
 abbrev pub accessRows : Access → List (Bool × Refusal)
 accessRows a = (accessSizeBad a, AccessSize) ∷ (crossing a, PageCrossing) ∷ []
 
--- a store: 8
+-- a store
 abbrev pub storeRows : Pool → ℕ → List (Bool × Refusal)
 storeRows pool address = (storeAddressBad pool address, StoreAddress) ∷ []
 
--- a plain walk: 1 to 7
+-- a plain walk
 abbrev pub walkRows : ℕ → Regime → Access → List (Bool × Refusal)
 walkRows n r a = regimeRows n r ++ accessRows a
 
@@ -54,7 +54,7 @@ accessCheck a = firstOf (accessRows a)
 unfoldable pub walkCheck : ℕ → Regime → Access → Checked
 walkCheck n r a = firstOf (walkRows n r a)
 
--- an access and a store in a session that has a regime: 1, 6, 7 and 1, 8
+-- an access and a store in a session that has a regime
 unfoldable pub sessionAccessCheck : ℕ → Pool → Access → Checked
 sessionAccessCheck n pool a = firstOf (memoryRows n pool ++ accessRows a)
 

@@ -1,4 +1,4 @@
--- What a leaf gives an access: the answer, and the leaf's new value (01, "Marks and answers").
+-- What a leaf gives an access: the answer, and the leaf's new value (RULES 8 and 9).
 use Prim.Native.Nat.{ℕ, _+_, _%_}
 use mathlib.Core.Bool.{Bool, false, not, _&&_, _||_}
 use mathlib.Core.List.{List, [], _∷_}
@@ -18,7 +18,7 @@ use Rattle.decision.specs.declared.HitKind.{HitKind}
 use Rattle.decision.specs.declared.HitKind.the-variants as hits
 use Rattle.decision.specs.declared.Verdict.{Verdict}
 
--- steps 6 to 8, in their order: each with the fault that it gives (01, "The walk")
+-- steps 6 to 8, in their order: each with the fault that it gives (RULES 6)
 abbrev pub leafTests : Regime → Access → Leaf → List (Bool × FaultKind)
 leafTests r a l = (flagFails r l, AccessFlag) ∷ (alignmentFails r a l, Alignment) ∷ (permissionFails r a l, Permission) ∷ []
 
@@ -81,7 +81,7 @@ passing r a l reads = record {
 unfoldable pub decision : Regime → Access → Leaf → ℕ → Decision
 decision r a l reads = firstFailing (leafTests r a l) (failing l reads) (passing r a l reads)
 
--- how a held leaf answers an access: with a fault, with a success, or not at all where it would become dirty: that walks again (01, "The session")
+-- how a held leaf answers an access: with a fault, with a success, or not at all where it would become dirty: that walks again (RULES 10.3)
 unfoldable pub hitKind : Regime → Access → Leaf → HitKind
 hitKind r a l = firstFailing (leafTests r a l) (λ (kind : FaultKind). hits.Fault) (pick (dirtyDue r a l) hits.Miss hits.Success)
 

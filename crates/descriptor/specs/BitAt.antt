@@ -1,4 +1,4 @@
--- One bit of the descriptor at an offset of a memory, set or cleared.
+-- One bit of the descriptor at an offset of a memory, set or cleared (RULES 8.1).
 use Prim.Native.Nat.{ℕ}
 use mathlib.Core.List.{List}
 use Rattle.descriptor.specs.Bytes.{desc, put}

@@ -1,4 +1,4 @@
--- Bits and fields of a number.
+-- Bits and fields of a number, as RULES 6.9 speaks of them.
 use Prim.Native.Nat.{ℕ, _+_, _-_, _/_, _%_, _^_}
 use mathlib.Core.Bool.{Bool, true, false}
 use lib.Dec.{eqb}

@@ -1,4 +1,4 @@
--- A descriptor as 8 little-endian bytes of a memory (01, "The guest, its pool and its regime").
+-- A descriptor as 8 little-endian bytes of a memory (RULES 2.3).
 use Prim.Native.Nat.{ℕ, zero, suc, _+_, _*_, _/_, _%_, _<_}
 use mathlib.Core.List.{List, [], _∷_, _++_}
 use lib.ListN.{getD, take, drop}

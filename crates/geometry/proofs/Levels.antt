@@ -1,4 +1,4 @@
--- The formulas of the geometry give the paper's table for the 4 KiB granule (01, steps 2 and 4).
+-- The formulas of the geometry give the table of RULES 6.2 for the 4 KiB granule.
 use Prim.Native.Nat.{ℕ, zero, suc, _+_}
 use mathlib.Core.Bool.{Bool, true, false}
 use mathlib.Core.List.{List, [], _∷_, map}

@@ -1,4 +1,4 @@
--- The levels of the tables, for a granule of 2 ^ p bytes. A level is named by the number of levels left below it, 0 for level 3.
+-- The levels of the tables (RULES 6.2), for a granule of 2 ^ p bytes. A level is named by the number of levels left below it, 0 for level 3.
 use Prim.Native.Nat.{ℕ, _+_, _*_, _-_, _/_, _%_, _^_, _≤_}
 use mathlib.Core.Bool.{Bool, not, _&&_}
 use mathlib.Core.List.{List, [], _∷_}
@@ -18,7 +18,7 @@ strideBits p = p - 3
 unfoldable pub unaligned : ℕ → ℕ → Bool
 unaligned p x = not (eqb (x % pageSize p) 0)
 
--- the page number of an address: bits 63 down to p (01, "The session")
+-- the page number of an address: bits 63 down to p (RULES 4.3)
 unfoldable pub pageOf : ℕ → ℕ → ℕ
 pageOf p a = a / pageSize p
 
@@ -26,26 +26,26 @@ pageOf p a = a / pageSize p
 unfoldable pub levelOf : ℕ → ℕ
 levelOf left = 3 - left
 
--- the lowest address bit of a level's index, and how many bytes an entry of it maps (01, step 2)
+-- the lowest address bit of a level's index, and how many bytes an entry of it maps (RULES 6.2)
 unfoldable pub shiftOf : ℕ → ℕ → ℕ
 shiftOf p left = p + (p - 3) * left
 
 unfoldable pub span : ℕ → ℕ → ℕ
 span p left = 2 ^ shiftOf p left
 
--- whether a level has blocks: above level 3, where an entry maps at most 2 ^ 30 bytes (01, step 4: levels 1 and 2)
+-- whether a level has blocks: above level 3, where an entry maps at most 2 ^ 30 bytes (RULES 6.2: levels 1 and 2)
 unfoldable pub blockAt : ℕ → ℕ → Bool
 blockAt p left = leb 1 left && leb (shiftOf p left) 30
 
--- the levels left at the first level, for addresses below 2 ^ (64 - t) (01, step 2)
+-- the levels left at the first level, for addresses below 2 ^ (64 - t) (RULES 6.2)
 unfoldable pub firstLeft : ℕ → ℕ → ℕ
 firstLeft p t = (63 - t - p) / (p - 3)
 
--- the address in a descriptor: bits 47 down, cut to a multiple of s (01, step 4)
+-- the address in a descriptor: bits 47 down, cut to a multiple of s (RULES 6.2)
 unfoldable pub cut : ℕ → ℕ → ℕ
 cut v s = v % addressLimit / s * s
 
--- output codes 0 to 5 mean 32, 36, 40, 42, 44, 48 bits; addresses are below 2 to that (01, step 1)
+-- output codes 0 to 5 mean 32, 36, 40, 42, 44, 48 bits; addresses are below 2 to that (RULES 3.1)
 unfoldable pub outputBits : ℕ → ℕ
 outputBits code = getD (32 ∷ 36 ∷ 40 ∷ 42 ∷ 44 ∷ 48 ∷ []) code 48
 

@@ -1,4 +1,4 @@
--- What each function tells whoever called it: of the session and the memory that were lent, s and m before the call and s′ and m′ after it, and
+-- What each function (RULES 10) tells whoever called it: of the session and the memory that were lent, s and m before the call and s′ and m′ after it, and
 -- of what it returned. proofs/Promises.antt has that each function's own contract says this.
 use Prim.Native.Nat.{ℕ}
 use mathlib.Core.List.{List}

@@ -12,7 +12,7 @@ use vmsa::Answer;
 use vmsa::PhysAddr;
 use vmsa::Regime;
 
-// Sets the regime of the lent session and empties every entry, after checks 1 to 5.
+// Sets the regime of the lent session and empties every entry, where the checks let it through.
 pub fn set_regime(session: &mut Session, memory: &[u8], r: Regime) -> Checked
     ensures { λ x. ⌜ handed (now (session .exit)) (now (memory .exit)) (replyTo x) ≡ leaves (now (session .entry)) (now (memory .entry)) (setRegime r) ⌝ }
 {
@@ -22,7 +22,7 @@ pub fn set_regime(session: &mut Session, memory: &[u8], r: Regime) -> Checked
     changed.reply
 }
 
-// An access in the lent session: refused with 9, 1, 6 or 7, or else answered.
+// An access in the lent session: refused, or else answered.
 pub fn access(session: &mut Session, memory: &mut [u8], a: Access) -> Answer
     ensures { λ x. ⌜ handed (now (session .exit)) (now (memory .exit)) (replyOf (view x)) ≡ leaves (now (session .entry)) (now (memory .entry)) (access a) ⌝ }
 {
@@ -32,7 +32,7 @@ pub fn access(session: &mut Session, memory: &mut [u8], a: Access) -> Answer
     accessed.answer
 }
 
-// Stores one descriptor at a physical address in the pool: refused with 9, 1 or 8, or else done.
+// Stores one descriptor at a physical address in the pool: refused, or else done.
 pub fn store(session: &mut Session, memory: &mut [u8], address: PhysAddr, value: u64) -> Checked
     ensures { λ x. ⌜ handed (now (session .exit)) (now (memory .exit)) (replyTo x) ≡ leaves (now (session .entry)) (now (memory .entry)) (store (address .0) value) ⌝ }
 {

@@ -1,4 +1,4 @@
--- How a lookup ends as one number, which passes from level to level in a register.
+-- How a lookup ends as one number, which passes from level to level in a register. A form of the code: no rule speaks of it.
 use Prim.Native.Nat.{ℕ, _+_, _*_, _≤_}
 use mathlib.Core.List.{List, [], _∷_}
 use mathlib.Core.Path.{_≡_}

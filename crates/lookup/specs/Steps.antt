@@ -1,4 +1,4 @@
--- Steps 1 to 5 of the walk (01, "The walk"): from a guest address to a leaf, or a fault. A reader says what stands at a descriptor address.
+-- Steps 1 to 5 of the walk (RULES 6.1 to 6.5): from a guest address to a leaf, or a fault. A reader says what stands at a descriptor address.
 use Prim.Native.Nat.{ℕ, zero, suc, _+_, _*_, _-_, _/_, _%_, _^_, _<_}
 use mathlib.Core.Bool.{Bool, not, _&&_, _||_}
 use mathlib.Core.List.{List}

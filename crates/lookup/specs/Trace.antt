@@ -1,4 +1,4 @@
--- What steps 1 to 5 of the walk leave: the descriptor addresses visited, and how the steps end.
+-- What steps 1 to 5 of the walk (RULES 6) leave: the descriptor addresses visited, and how the steps end.
 use Prim.Native.Nat.{ℕ, _+_}
 use mathlib.Core.List.{List, [], _∷_}
 use lib.ListN.{length}
@@ -12,7 +12,7 @@ pub data End : Type 0 where
   fault : FaultKind → ℕ → End
   leaf : ℕ → ℕ → ℕ → End
 
--- the list of descriptor addresses the rules visit, in order (01, "Marks and answers"), and the end
+-- the list of descriptor addresses the rules visit, in order (RULES 9.3), and the end
 pub record Trace : Type 0 where
   pub visited : List ℕ
   pub end : End

@@ -1,4 +1,4 @@
--- What a leaf permits (01, "The walk", after the codes).
+-- What a leaf permits (RULES 7), and when each of steps 6 to 8 fails (RULES 6.6 to 6.8).
 use Prim.Native.Nat.{ℕ, _%_}
 use mathlib.Core.Bool.{Bool, true, false, not, _&&_, _||_}
 use lib.Dec.{eqb}

@@ -14,7 +14,7 @@ pub fn attribute_of(r: Regime, l: Leaf) -> u8
     vmsa::attribute(r.attributes, index)
 }
 
-// W of the paper: writable, clean or dirty.
+// W (RULES 7.1): writable, clean or dirty.
 pub fn writable(r: Regime, l: Leaf) -> bool
     ensures { λ b. ⌜ b ≡ writableOf r l ⌝ }
 {

@@ -1,4 +1,4 @@
--- When a call is refused: one test for each row of 01, "When the walker says no". All sums are exact.
+-- When a call is refused: one test for each row of RULES 5.1. All sums are exact.
 use Prim.Native.Nat.{ℕ, zero, suc, _+_, _-_, _%_, _^_}
 use mathlib.Core.Bool.{Bool, true, false, not, _&&_, _||_}
 use lib.Dec.{leb, ltb, eqb}

@@ -1,4 +1,4 @@
--- Rule 3 of the walk of 01, and of the real functions.
+-- Rule 3 of our walk, and of the real functions.
 use Prim.Native.Nat.{ℕ, _+_, _-_, _≤_}
 use mathlib.Core.Bool.{Bool, true, false}
 use mathlib.Core.List.{List, [], _∷_, _++_}
@@ -76,7 +76,7 @@ room r n address e f =
     let h = store-accepted n (r .pool) address (store-check r n address e f) in
     omega (arith, h .fits, h .least, h .most)
 
--- ---- the walk of 01 keeps the laws
+-- ---- our walk keeps the laws
 
 pub lawful : Lawful ours
 lawful =

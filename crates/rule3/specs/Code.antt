@@ -1,4 +1,4 @@
--- The claim of rule 3: of every list of calls of the model, and of every list of calls of the functions of a session, by their own contracts.
+-- The claim of rule 3 (RULES 11 and 13): of every list of calls of the model, and of every list of calls of the functions of a session, by their own contracts.
 use Prim.Native.Nat.{ℕ}
 use mathlib.Core.List.{List}
 use mathlib.Core.Option.{Option, some}

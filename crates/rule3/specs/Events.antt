@@ -1,4 +1,4 @@
--- A list of a session's calls, and the words of rule 3, from the calls and their replies alone (01, "The session").
+-- A list of a session's calls, and the words of rule 3, from the calls and their replies alone (RULES 11).
 use Prim.Native.Nat.{ℕ, _≤_}
 use mathlib.Core.Bool.{Bool, true, false, _&&_}
 use mathlib.Core.List.{List, [], _∷_}

@@ -1,4 +1,4 @@
--- What rule 3 asks of a walker.
+-- What rule 3 (RULES 11) asks of a walker.
 use Prim.Native.Nat.{ℕ, _+_, _≤_}
 use mathlib.Core.Bool.{Bool, true, false}
 use mathlib.Core.List.{List}

@@ -1,4 +1,4 @@
--- Rules 1 and 2 speak of `walk`. This is every call of the function walk::walk, by what its own contract tells its caller.
+-- Rules 1 and 2 (RULES 13) speak of `walk`. This is every call of the function walk::walk, by what its own contract tells its caller.
 use Prim.Native.Nat.{ℕ}
 use mathlib.Core.List.{List}
 use mathlib.Core.Path.{_≡_}

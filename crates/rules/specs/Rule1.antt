@@ -1,4 +1,4 @@
--- Rule 1 of the letter for the plain walk, over any bytes, regime and access.
+-- Rule 1 (RULES 13) for the plain walk, over any bytes, regime and access.
 -- That every call gets an answer and ends is the code's contract: it asks nothing of its caller, and its outcome equals `walk`.
 use Prim.Native.Nat.{ℕ, _+_, _<_, _≤_}
 use mathlib.Core.Bool.{Bool, true, false}
@@ -25,7 +25,7 @@ abbrev pub FirstNumber : List (Bool × Refusal) → ℕ → Type 0
 FirstNumber rows k = (x : Refusal) × FirstRow rows x × (numberOf x ≡ k)
 
 pub record Rule1 : Type 0 where
-  -- a refusal is given exactly where the documents' table says, with the number of the first row that applies
+  -- a refusal is given exactly where the table (RULES 5) says, with the number of the first row that applies
   pub refusals : (r : Regime) (a : Access) (m : List ℕ) (k : ℕ) → (walk r a m .result ≡ refused k) ↔ FirstNumber (walkRows (length m) r a) k
   -- and is not given exactly where the checks of that table accept
   pub accepted : (r : Regime) (a : Access) (m : List ℕ) → (walkCheck (length m) r a ≡ Accepted) ↔ ((k : ℕ) → walk r a m .result ≢ refused k)

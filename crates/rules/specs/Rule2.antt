@@ -1,4 +1,4 @@
--- Rule 2 of the letter: what a plain walk answers and changes where it is not refused, that is, where its checks accept (rule 1).
+-- Rule 2 (RULES 13): what a plain walk answers and changes where it is not refused, that is, where its checks accept (rule 1).
 use Prim.Native.Nat.{ℕ, _+_, _-_, _%_, _<_, _≤_}
 use mathlib.Core.Bool.{Bool, true, false}
 use mathlib.Core.List.{List}
@@ -80,10 +80,10 @@ pub record Marked {r : Regime} {a : Access} {m : List ℕ} (l : LeafOf r a m) (s
   -- those only where the updates are switched on; the answer says which were made
   pub flag : FlagUpdate r a (l .value) (valueAfter l) (s .accessed)
   pub dirty : DirtyUpdate r a (l .value) (valueAfter l) (s .dirtied)
-  -- AF is 1 afterwards (01: with HA on it becomes 1, with HA off step 6 asks it), but a probe changes nothing
+  -- AF is 1 afterwards (RULES 8.1: with HA on it becomes 1, with HA off step 6 asks it), but a probe changes nothing
   pub accessed : isProbe (a .kind) ≡ false → af (valueAfter l) ≡ true
   pub probe : isProbe (a .kind) ≡ true → walk r a m .bytes ≡ m
-  -- a success may be remembered where AF is 1 afterwards (01)
+  -- a success may be remembered where AF is 1 afterwards (RULES 9.2)
   pub cacheable : s .cacheable ≡ af (valueAfter l)
 
 pub record Rule2 : Type 0 where
@@ -106,15 +106,15 @@ pub record Rule2 : Type 0 where
   -- a written page ends writable with its Access flag set
   pub written : (r : Regime) (a : Access) (m : List ℕ) (s : Success) → walk r a m .result ≡ success s → Bytes m → writes (a .kind) ≡ true
       → (l : LeafOf r a m) → (af (valueAfter l) ≡ true) × (ap2 (valueAfter l) ≡ false)
-  -- every output address is below 2 to the output size (01)
+  -- every output address is below 2 to the output size (RULES 9.4)
   pub below : (r : Regime) (a : Access) (m : List ℕ) (s : Success) → walk r a m .result ≡ success s → s .output .0 < outputLimit (r .output)
-  -- the count of reads is the length of the list of descriptor addresses visited, and at most 4 (01): for a success,
+  -- the count of reads is the length of the list of descriptor addresses visited, and at most 4 (RULES 9.3): for a success,
   pub successReads : (r : Regime) (a : Access) (m : List ℕ) (s : Success) → walk r a m .result ≡ success s
       → (s .reads ≡ length (traceOf r a m .visited)) × (s .reads ≤ 4)
   -- and for a fault
   pub faultReads : (r : Regime) (a : Access) (m : List ℕ) (f : Faulted) → walk r a m .result ≡ faulted f
       → (f .reads ≡ length (traceOf r a m .visited)) × (f .reads ≤ 4)
-  -- a fault may be remembered exactly where a leaf with AF 1 was reached and step 7 or 8 failed (01)
+  -- a fault may be remembered exactly where a leaf with AF 1 was reached and step 7 or 8 failed (RULES 9.2)
   pub faultCacheable : (r : Regime) (a : Access) (m : List ℕ) (f : Faulted) → walk r a m .result ≡ faulted f
       → (f .cacheable ≡ true)
       ↔ ((l : LeafOf r a m) × (af (l .value) ≡ true) × (FirstFails (stepsOf r a m) Alignment (levelOf (l .left)) ⊎ FirstFails (stepsOf r a m) Permission (levelOf (l .left))))

@@ -1,4 +1,4 @@
--- The steps of the walk as one list (01, "The walk", 1 to 8): each with its test, and the fault and level that it gives where it fails.
+-- The steps of the walk as one list (RULES 6): each with its test, and the fault and level that it gives where it fails.
 use Prim.Native.Nat.{ℕ, zero, suc}
 use mathlib.Core.Bool.{Bool, true, false, _||_}
 use mathlib.Core.List.{List, [], _∷_}

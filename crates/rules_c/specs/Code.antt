@@ -1,4 +1,4 @@
--- The C functions of a session: each call by what its own contract tells (capi_session, specs/Says.antt), read as a call and a reply.
+-- Rules 1 and 3 (RULES 13) of the C functions of a session: each call by what its own contract tells (capi_session, specs/Says.antt), read as a call and a reply.
 use Prim.Native.Nat.{ℕ}
 use mathlib.Core.List.{List}
 use Rattle.vmsa.specs.Words.{regimeOf}

@@ -1,4 +1,4 @@
--- What C reads in the numbers that it gets.
+-- What C reads in the numbers that it gets (RULES 15).
 use Prim.Native.Nat.{ℕ}
 use lib.Dec.{eqb}
 use Rattle.descriptor.specs.Bits.{pick}

@@ -1,4 +1,4 @@
--- Rules 1 to 3 in what C passes and gets.
+-- Rules 1 to 3 (RULES 13) in what C passes and gets.
 use Prim.Native.Nat.{ℕ, _+_, _<_, _≤_}
 use mathlib.Core.Bool.{Bool, true, false}
 use mathlib.Core.List.{List}

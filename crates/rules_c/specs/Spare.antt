@@ -1,4 +1,4 @@
--- Spare numbers of the C structs: they have no say in what is given, and are 0 in what is returned.
+-- Spare numbers of the C structs (RULES 15.5): they have no say in what is given, and are 0 in what is returned.
 use Prim.Native.Nat.{ℕ}
 use mathlib.Core.List.{List, map}
 use mathlib.Core.Path.{_≡_}

@@ -1,4 +1,4 @@
--- The functions over a lent session: each call by what its own contract tells (lent, specs/Says.antt).
+-- Rules 1 and 3 (RULES 13) of the functions over a lent session: each call by what its own contract tells (lent, specs/Says.antt).
 use Prim.Native.Nat.{ℕ}
 use mathlib.Core.List.{List}
 use Rattle.vmsa.specs.Answers.{view}

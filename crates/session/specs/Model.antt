@@ -1,4 +1,4 @@
--- The session (01, "The session"): its four calls as functions on a session and a memory, over any walker.
+-- The session (RULES 10): its four calls as functions on a session and a memory, over any walker.
 use Prim.Native.Nat.{ℕ}
 use mathlib.Core.List.{List}
 use mathlib.Core.Option.{Option, none, some}
@@ -62,7 +62,7 @@ pub data Call : Type 0 where
 module _ (W : Walker) where
   open Walker W using (memoryCheck, settingCheck, storeCheck, offset, page)
 
-  -- ---- set regime: checks 1 to 5; accepted, it empties every entry
+  -- ---- set regime: accepted, it empties every entry
 
   abbrev pub setBy : Session → List ℕ → Regime → Checked → Stepped
   setBy s m R Accepted = handed (record { regime = some R; entries = noEntries }) m done
@@ -83,7 +83,7 @@ module _ (W : Walker) where
   abbrev pub accessCall : Session → List ℕ → Access → Stepped
   accessCall s m a = accessWith s m a (s .regime)
 
-  -- ---- store: 9, 1, 8; accepted, its 8 bytes in the pool become the value given
+  -- ---- store: accepted, its 8 bytes in the pool become the value given
 
   abbrev pub storeBy : Regime → List ℕ → ℕ → ℕ → Checked → Told Reply
   storeBy R m address value Accepted = told done (putWord W R m (offset R address) value)

@@ -1,4 +1,4 @@
--- The session of the code: in the model's values, and each number of it that a call leaves.
+-- The session of the code (RULES 10): in the model's values, and each number of it that a call leaves.
 use Prim.Native.Nat.{ℕ}
 use mathlib.Core.List.{List, map}
 use mathlib.Core.Option.{Option}

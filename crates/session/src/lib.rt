@@ -39,7 +39,7 @@ pub struct Accessed {
     pub answer: Answer,
 }
 
-// A store in every session that has this regime, which stays as it was: refused with 9, 1 or 8, or else done.
+// A store in every session that has this regime, which stays as it was: refused, or else done.
 pub fn store_in(
     regime: RegimeWords,
     set: u8,
@@ -81,7 +81,7 @@ impl Session {
         }
     }
 
-    // Sets the regime and empties every entry, after checks 1 to 5.
+    // Sets the regime and empties every entry, where the checks let it through.
     pub fn set_regime(self, memory: &[u8], r: Regime) -> Changed
         ensures { λ x. ⌜ handed (x .session) (now (memory .exit)) (replyTo (x .reply)) ≡ leaves self (now (memory .entry)) (setRegime r) ⌝ }
     {
@@ -118,7 +118,7 @@ impl Session {
         self
     }
 
-    // An access: refused with 9, 1, 6 or 7, or else answered.
+    // An access: refused, or else answered.
     pub fn access(mut self, memory: &mut [u8], a: Access) -> Accessed
         ensures { λ x. ⌜ handed (x .session) (now (memory .exit)) (replyOf (view (x .answer))) ≡ leaves self (now (memory .entry)) (access a) ⌝ }
     {
@@ -134,7 +134,7 @@ impl Session {
         }
     }
 
-    // Stores one descriptor at a physical address in the pool: refused with 9, 1 or 8, or else done.
+    // Stores one descriptor at a physical address in the pool: refused, or else done.
     pub fn store(self, memory: &mut [u8], address: PhysAddr, value: u64) -> Changed
         ensures { λ x. ⌜ handed (x .session) (now (memory .exit)) (replyTo (x .reply)) ≡ leaves self (now (memory .entry)) (store (address .0) value) ⌝ }
     {

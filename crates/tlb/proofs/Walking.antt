@@ -1,4 +1,4 @@
--- The session's walk past the checks is the plain walk over the pool; the checks of its calls are the rows of 01.
+-- The session's walk past the checks is the plain walk over the pool; the checks of its calls are the rows of RULES 5.
 use Prim.Native.Nat.{ℕ, zero, suc, _+_, _-_, _*_, _/_, _%_, _≤_}
 use mathlib.Core.Bool.{Bool, true, false, not, _||_}
 use mathlib.Core.List.{List, [], _∷_, _++_}

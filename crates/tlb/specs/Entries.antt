@@ -1,4 +1,4 @@
--- An entry of the code in the walker's values, and what an access leaves of it.
+-- An entry of the code (RULES 10.2 and 10.5) in the walker's values, and what an access leaves of it (RULES 10.3).
 use Prim.Native.Nat.{ℕ}
 use mathlib.Core.Bool.{Bool, true, false, _&&_}
 use mathlib.Core.List.{List}

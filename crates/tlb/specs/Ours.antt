@@ -1,4 +1,4 @@
--- The walker of 01: each part of a session's walker by the definitions that the plain walk's contracts cite.
+-- Our walker: each part of a session's walker by the definitions that the plain walk's contracts cite.
 use Prim.Native.Nat.{ℕ, _+_, _-_, _*_}
 use mathlib.Core.List.{List}
 use lib.ListN.{length}
@@ -20,7 +20,7 @@ use Rattle.decision.specs.Decision.{decision, updated}
 use Rattle.walk.specs.Walk.{poolBytes, traced, walk}
 use Rattle.tlb.specs.Walker.{Spot, lost, found, Walker}
 
--- where the descriptor at a physical address lies in the memory (01, "The guest, its pool and its regime")
+-- where the descriptor at a physical address lies in the memory (RULES 2.3)
 abbrev pub offsetOf : Regime → ℕ → ℕ
 offsetOf r address = r .pool .start + (address - r .pool .address .0)
 

@@ -1,4 +1,4 @@
--- What a call of a session hands back, with the count of reads apart.
+-- What a call of a session (RULES 10) hands back, with the count of reads apart.
 use Prim.Native.Nat.{ℕ}
 use mathlib.Core.List.{List}
 use mathlib.Core.Bool.{Bool, true, false, _||_}

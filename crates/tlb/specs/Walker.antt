@@ -1,4 +1,4 @@
--- A TLB entry (01: a "place"), and what it and the walk answer an access (01, "The session"), over any walker.
+-- A TLB entry (the customer's papers: a "place"), and what it and the walk answer an access (RULES 10.2 and 10.3), over any walker.
 use Prim.Native.Nat.{ℕ, _+_, _%_}
 use mathlib.Core.Bool.{Bool, true, false}
 use mathlib.Core.List.{List, [], _∷_, _++_}
@@ -107,7 +107,7 @@ module _ (W : Walker) where
   abbrev pub walked : Regime → List ℕ → Access → Walked
   walked R m a = walkFrom R m a (locate R m (page R a))
 
-  -- ---- an access: 9, 1, 6, 7; then the held leaf answers with 0 reads, or else the walk
+  -- ---- an access: past its checks the held leaf answers with 0 reads, or else the walk
 
   -- what a held leaf answers, unless a write or update would make it dirty: that walks again
   abbrev pub recall : Regime → List ℕ → Access → Result → Walked

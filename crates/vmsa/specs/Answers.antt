@@ -1,4 +1,4 @@
--- An answer in the paper's values: the number of each refusal, and the code of each fault.
+-- An answer in numbers: that of each refusal, and the code of each fault (RULES 9).
 use Prim.Native.Nat.{ℕ, _+_}
 use mathlib.Core.Bool.{Bool, false}
 use Rattle.vmsa.specs.declared.Refusal.{Refusal}
@@ -9,7 +9,7 @@ use Rattle.vmsa.specs.declared.Success.{Success}
 use Rattle.vmsa.specs.declared.Answer.{Answer}
 use Rattle.vmsa.specs.declared.Answer.the-variants as answer
 
--- the number of a refusal (01, "When the walker says no")
+-- the number of a refusal (RULES 5.1)
 abbrev pub numberOf : Refusal → ℕ
 numberOf MemoryPool = 1
 numberOf PoolAddress = 2
@@ -21,7 +21,7 @@ numberOf PageCrossing = 7
 numberOf StoreAddress = 8
 numberOf NoRegime = 9
 
--- the code of a fault (01, "The walk")
+-- the code of a fault (RULES 9.1)
 abbrev pub codeOf : FaultKind → ℕ → ℕ
 codeOf AddressSize level = 0 + level
 codeOf Translation level = 4 + level
@@ -30,7 +30,7 @@ codeOf Permission level = 12 + level
 codeOf ExternalAbort level = 20 + level
 codeOf Alignment level = 33
 
--- what a fault holds (01, "Marks and answers"); cacheable is "may be remembered", reads the count of reads
+-- what a fault holds (RULES 9.1); cacheable is "may be remembered", reads the count of reads
 pub record Faulted : Type 0 where
   pub code : ℕ
   pub level : ℕ

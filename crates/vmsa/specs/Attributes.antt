@@ -8,7 +8,7 @@ use Rattle.descriptor.specs.Bits.{field}
 unfoldable pub attribute : ℕ → ℕ → ℕ
 attribute attributes i = field (8 * i) 8 attributes
 
--- 0x00, 0x04, 0x08 and 0x0C are Device; both halves nonzero is Normal (01, row 5)
+-- 0x00, 0x04, 0x08 and 0x0C are Device; both halves nonzero is Normal (RULES 3.3)
 unfoldable pub device : ℕ → Bool
 device b = eqb b 0x00 || eqb b 0x04 || eqb b 0x08 || eqb b 0x0C
 

@@ -1,4 +1,4 @@
--- The fields of a leaf descriptor (01, "The walk").
+-- The fields of a leaf descriptor (RULES 6.9).
 use Prim.Native.Nat.{ℕ}
 use mathlib.Core.Bool.{Bool}
 use Rattle.descriptor.specs.Bits.{bit, field, setBit, clearBit}

@@ -1,4 +1,4 @@
--- What each kind of access asks (01, "The guest, its pool and its regime" and "The walk").
+-- What each kind of access asks (RULES 4).
 use mathlib.Core.Bool.{Bool, true, false}
 use Rattle.vmsa.specs.declared.AccessKind.{AccessKind}
 use Rattle.vmsa.specs.declared.AccessKind.the-variants.{Read, Write, Update, Fetch, ProbeRead, ProbeWrite}

@@ -1,20 +1,20 @@
--- Each limit of 01, named once.
+-- Each limit, named once.
 use Prim.Native.Nat.{ℕ, _≤_, _^_}
 use Rattle.vmsa.specs.declared.Regime.{Regime}
 
--- the most bytes of lent memory (01, "The guest, its pool and its regime")
+-- the most bytes of lent memory (RULES 2.1)
 abbrev pub memoryLimit : ℕ
 memoryLimit = 1048576
 
--- the most bytes of a pool (01, row 1)
+-- the most bytes of a pool (RULES 2.2)
 abbrev pub poolLimit : ℕ
 poolLimit = 65536
 
--- physical addresses are below this (01, rows 2 and 4)
+-- physical addresses are below this (RULES 5.1, rows 2 and 4)
 abbrev pub addressLimit : ℕ
 addressLimit = 2 ^ 48
 
--- the size field T of a range, and the output size code (01, row 3)
+-- the size field T of a range, and the output size code (RULES 3.1)
 abbrev pub tszLeast : ℕ
 tszLeast = 16
 
@@ -24,7 +24,7 @@ tszMost = 39
 abbrev pub outputMost : ℕ
 outputMost = 5
 
--- page bits of the 4 KiB granule (01, "The guest, its pool and its regime")
+-- page bits of the 4 KiB granule (RULES 1)
 abbrev pub pageBits : ℕ
 pageBits = 12
 

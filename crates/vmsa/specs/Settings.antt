@@ -1,4 +1,4 @@
--- A regime with one setting changed, and the regime to start from (01, "The guest, its pool and its regime").
+-- A regime with one setting changed, and the regime to start from (RULES 3.2).
 use Prim.Native.Nat.{ℕ}
 use mathlib.Core.Bool.{Bool, true, false}
 use Rattle.vmsa.specs.declared.Regime.{Regime}

@@ -1,4 +1,4 @@
--- A regime as numbers.
+-- A regime as numbers (RULES 15.1).
 use Prim.Native.Nat.{ℕ}
 use mathlib.Core.Bool.{Bool, not}
 use lib.Dec.{eqb}

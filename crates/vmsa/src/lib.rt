@@ -136,7 +136,7 @@ pub struct Fault {
     pub reads: u8,
 }
 
-// Why a call is refused, in the order of the numbers 1 to 9.
+// Why a call is refused (RULES 5.1).
 pub enum Refusal {
     MemoryPool,
     PoolAddress,
@@ -363,7 +363,7 @@ impl AccessKind {
 }
 
 impl Refusal {
-    // The number of the paper.
+    // Its number (RULES 5.1).
     pub fn number(self) -> u8
         ensures { λ r. ⌜ r ≡ numberOf self ⌝ }
     {

@@ -1,4 +1,4 @@
--- The plain walk (01): the checks, steps 1 to 5, steps 6 to 8, and the leaf's new value put back into the pool.
+-- The plain walk (RULES 6): the checks, steps 1 to 5, steps 6 to 8, and the leaf's new value put back into the pool.
 use Prim.Native.Nat.{ℕ, _+_, _-_}
 use mathlib.Core.Bool.{Bool, false}
 use mathlib.Core.List.{List, _++_}
@@ -21,7 +21,7 @@ use Rattle.decision.specs.Decision.{Decision, decision}
 use Rattle.walk.specs.declared.Kept.{Kept}
 use Rattle.walk.specs.declared.Kept.the-variants as kept
 
--- an answer in the paper's values, and the bytes afterwards
+-- an answer in numbers, and the bytes afterwards
 pub record Outcome : Type 0 where
   pub result : Result
   pub bytes : List ℕ
@@ -30,7 +30,7 @@ pub record Outcome : Type 0 where
 abbrev pub outcome : Answer → List ℕ → Outcome
 outcome answer bytes = record { result = view answer; bytes = bytes }
 
--- the pool's bytes, and the memory with these bytes for the pool (01, "The guest, its pool and its regime")
+-- the pool's bytes, and the memory with these bytes for the pool (RULES 2.2)
 abbrev pub poolBytes : Pool → List ℕ → List ℕ
 poolBytes p memory = take (p .length) (drop (p .start) memory)
 
@@ -55,7 +55,7 @@ traced r pool address = locate r (fetched pool (r .pool .address .0)) address
 unfoldable pub walkPool : Regime → Access → List ℕ → Outcome
 walkPool r a pool = concluded r a pool (length (traced r pool (a .address .0) .visited)) (traced r pool (a .address .0) .end)
 
--- the leaf that may be remembered: as the walk left it, updates included (01, "The session")
+-- the leaf that may be remembered: as the walk left it, updates included (RULES 10.2)
 abbrev pub keptOf : Leaf → Decision → Option Leaf
 keptOf l d = pick (cacheableIn (d .result)) (some (record { value = d .value; left = l .left })) none
 

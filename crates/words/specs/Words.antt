@@ -1,4 +1,4 @@
--- An access and an answer as structs of numbers, and the calls of a monitor in them.
+-- An access and an answer as structs of numbers (RULES 15), and the calls of a monitor in them.
 use Prim.Native.Nat.{ℕ}
 use mathlib.Core.Bool.{true, false}
 use mathlib.Core.List.{List}

@@ -195,7 +195,7 @@ fn refusal_byte(x: Checked) -> u8
     }
 }
 
-// A regime to be set over n bytes of memory: 0, or the number of the refusal, 1 to 5; and the regime as a session holds it.
+// A regime to be set over n bytes of memory: 0, or the number of the refusal; and the regime as a session holds it.
 pub fn set_words(n: usize, regime: RegimeWords) -> SetWords
     ensures { λ x. ⌜ x ≡ setWords n (regimeOf regime) ⌝ }
 {
@@ -255,7 +255,7 @@ pub fn hit_entry(regime: RegimeWords, set: u8, entry: Entry, n: usize, access: A
     }
 }
 
-// An access in every session that has this regime, and this entry for the access's page: 9, 1, 6, 7.
+// An access in every session that has this regime, and this entry for the access's page.
 pub fn access_entry(
     regime: RegimeWords,
     set: u8,
@@ -275,7 +275,7 @@ pub fn access_entry(
     }
 }
 
-// A store of one descriptor in every session that has this regime: 0, or the number of the refusal, 9, 1 or 8.
+// A store of one descriptor in every session that has this regime: 0, or the number of the refusal.
 pub fn store_words(regime: RegimeWords, set: u8, memory: &mut [u8], address: u64, value: u64) -> u8
     ensures { λ n. ⌜ told n (now (memory .exit)) ≡ numbered (storeIn ours (regimeIn regime set) (now (memory .entry)) address value) ⌝ }
 {

@@ -1,4 +1,4 @@
--- What the program asks of a memory.
+-- What the program asks of a memory; no rule speaks of it.
 use Prim.Native.Nat.{ℕ, _≤_}
 use mathlib.Core.List.{List}
 use lib.ListN.{length}
