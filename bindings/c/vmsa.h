@@ -11,6 +11,15 @@
  * where the length is 0. A call that makes no sense is refused with a number
  * (enum vmsa_refusal) and changes neither memory nor session.
  *
+ * What a guest must not use
+ *
+ * The library is not told of, and leaves alone: top-byte-ignore, 52-bit
+ * addresses, PAN and E0PD, the Contiguous bit, permission indirection,
+ * protected table walks, Access flags of tables, table attributes, ASIDs,
+ * big-endian tables, granules other than 4 KiB, a second stage, Realm and
+ * Secure state, alignment checking of Normal memory. docs/RULES.md, section
+ * 14, says for each what happens here and what hardware would do.
+ *
  * Out of contract
  *
  * Three things: a bad pointer (null for a struct, or one that does not name a
