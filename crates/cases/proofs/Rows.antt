@@ -1,6 +1,7 @@
 -- The table is proved: antt computes the quick walk of every row, and one law turns that into the walk.
 use mathlib.Core.Bool.{Bool, true, _&&_}
-use mathlib.Core.Path.{_≡_, refl, _∙_}
+use mathlib.Core.Path.{_≡_, refl, ap, _∙_}
+use Prim.Native.Nat.{ℕ}
 use mathlib.Core.List.{List, [], _∷_}
 use lib.Dec.{eqb}
 use borrow.Author.Tests.{eqb-true}
@@ -11,13 +12,15 @@ use Rattle.geometry.specs.Geometry.{pageSize, strideBits, unaligned, pageOf, le
 use Rattle.vmsa.specs.Attributes.{attribute, device, normal}
 use Rattle.refusals.specs.Tests.{memoryPoolBad, poolAddressBad, tszBad, sizesBad, rootBad, rootsBad, attributeBad, attributesBad, accessSizeBad, lastByte, crossing}
 use Rattle.checks.specs.Order.{walkCheck}
+use Rattle.vmsa.specs.declared.AccessKind.the-variants.{Read}
+use Rattle.lookup.specs.Trace.{Trace}
 use Rattle.lookup.specs.Steps.{invalid, isTable, addressIn, decoded, entryAt, followed, entered, descend, upper, rangeOf, outside, contextOf, locate}
 use Rattle.permission.specs.Permission.{attributeOf, writable, clean, user, mayRead, mayWrite, mayFetch, permitted, misaligned, flagFails, alignmentFails, permissionFails}
 use Rattle.decision.specs.Decision.{flagDue, dirtyDue, updated, cacheable, outputOf, failing, passing, decision}
 use Rattle.walk.specs.Walk.{Outcome}
-use Rattle.cases.specs.Cases.{puts, Row, expected, Holds, All, rows, Worked}
+use Rattle.cases.specs.Cases.{poolAddress, base, usual, withThird, puts, Row, expected, Holds, All, rows, visitedIn, Worked}
 use Rattle.cases.proofs.Quick.{placed, allPlaced, valueAt, quick, walkAlong, quickWalk}
-use Rattle.cases.proofs.Sparse.{walk-quick}
+use Rattle.cases.proofs.Sparse.{traced-quick, walk-quick}
 
 -- the pool starts the memory, and the descriptors lie in it
 abbrev sound : Row → Bool
@@ -57,6 +60,9 @@ all-computed : outcomes computed rows ≡ outcomes expected rows
 unfolding outcomes rows puts valueAt quick walkAlong quickWalk setBit clearBit pageSize strideBits unaligned pageOf levelOf shiftOf span blockAt firstLeft cut outputBits outputLimit attribute device normal memoryPoolBad poolAddressBad tszBad sizesBad rootBad rootsBad attributeBad attributesBad accessSizeBad lastByte crossing walkCheck invalid isTable addressIn decoded entryAt followed entered descend upper rangeOf outside contextOf locate attributeOf writable clean user mayRead mayWrite mayFetch permitted misaligned flagFails alignmentFails permissionFails flagDue dirtyDue updated cacheable outputOf failing passing decision
 all-computed = refl
 
+visited : (ds : List (ℕ × ℕ)) → allPlaced (base .pool .length) ds ≡ true → visitedIn ds ≡ locate base (quick (base .pool .length) ds poolAddress) (usual Read .address .0) .visited
+visited ds ok = ap (λ (t : Trace). t .visited) (traced-quick base (usual Read .address .0) ds ok)
+
 pub worked : Worked
-unfolding Worked bytesOf digits
-worked = (each rows all-sound all-computed, refl)
+unfolding Worked bytesOf digits allPlaced placed valueAt quick pageSize strideBits levelOf shiftOf span blockAt firstLeft cut outputBits outputLimit invalid isTable addressIn decoded entryAt followed entered descend upper rangeOf outside contextOf locate
+worked = (each rows all-sound all-computed, refl, visited (withThird 0x4000F003) refl, visited (withThird 0x40010003) refl)

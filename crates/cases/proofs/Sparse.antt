@@ -139,6 +139,12 @@ along : (r : Regime) (a : Access) (pool : List ℕ) → walkPool r a pool ≡ wa
 unfolding walkPool walkAlong traced
 along r a pool = refl
 
+-- the descriptors visited
+pub traced-quick : (r : Regime) (a : ℕ) (ds : List (ℕ × ℕ)) → allPlaced (r .pool .length) ds ≡ true
+    → traced r (memoryOf (r .pool .length) ds) a ≡ locate r (quick (r .pool .length) ds (r .pool .address .0)) a
+unfolding traced
+traced-quick r a ds ok = ap (λ (read : ℕ → Word). locate r read a) (same-reader (r .pool .length) ds ok (r .pool .address .0))
+
 pub walk-quick : (r : Regime) (a : Access) (ds : List (ℕ × ℕ)) → r .pool .start ≡ 0 → allPlaced (r .pool .length) ds ≡ true
     → walk r a (memoryOf (r .pool .length) ds) ≡ quickWalk (r .pool .length) ds r a
 unfolding walk quickWalk

@@ -13,7 +13,7 @@ use Rattle.vmsa.specs.declared.Range.{Range}
 use Rattle.vmsa.specs.declared.Access.{Access}
 use Rattle.vmsa.specs.declared.AccessKind.{AccessKind}
 use Rattle.vmsa.specs.declared.AccessKind.the-variants.{Read, Write, Fetch, ProbeWrite}
-use Rattle.walk.specs.Walk.{Outcome, walk}
+use Rattle.walk.specs.Walk.{Outcome, traced, walk}
 
 -- ---- what the cases start from
 
@@ -186,6 +186,14 @@ rows =
     ∷ row base (access 0x400ABC 4 Write) (withThird 0x40010003) (failed 23 3 false 4) []
     ∷ []
 
--- the claim: every row holds, and P2's leaf has these bytes
+-- the descriptor addresses that the usual access visits, in order
+abbrev pub visitedIn : List (ℕ × ℕ) → List ℕ
+visitedIn found = traced base (memoryOf (base .pool .length) found) (usual Read .address .0) .visited
+
+-- the claim: every row holds; P2's leaf has these bytes; P6 and P7 read these addresses, the last within the pool and just after it
 unfoldable pub Worked : Type 0
-Worked = All rows × (bytesOf dirtyLeaf ≡ 0x43 ∷ 0x57 ∷ 0x00 ∷ 0x80 ∷ 0x00 ∷ 0x00 ∷ 0x08 ∷ 0x00 ∷ [])
+Worked =
+    All rows
+    × (bytesOf dirtyLeaf ≡ 0x43 ∷ 0x57 ∷ 0x00 ∷ 0x80 ∷ 0x00 ∷ 0x00 ∷ 0x08 ∷ 0x00 ∷ [])
+    × (visitedIn (withThird 0x4000F003) ≡ 0x40000000 ∷ 0x40001000 ∷ 0x40002010 ∷ 0x4000F018 ∷ [])
+    × (visitedIn (withThird 0x40010003) ≡ 0x40000000 ∷ 0x40001000 ∷ 0x40002010 ∷ 0x40010018 ∷ [])

@@ -2,5 +2,4 @@ pub mod Tests
 pub mod Laws
 pub mod Numbers
 pub mod BitLaws
-pub mod BitAtLaws
 pub mod Lists

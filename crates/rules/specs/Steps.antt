@@ -35,7 +35,7 @@ pub data FirstFails : List Step → FaultKind → ℕ → Type 0 where
   here : {kind : FaultKind} {level : ℕ} {steps : List Step} → FirstFails (step true kind level ∷ steps) kind level
   later : {kind k : FaultKind} {level l : ℕ} {steps : List Step} → FirstFails steps k l → FirstFails (step false kind level ∷ steps) k l
 
--- 6: AF clear and HA off. 7: misaligned on Device memory. 8: not permitted. All at the leaf's level
+-- 6: AF clear and HA off. 7: misaligned on Device memory. 8: not permitted, or a fetch from Device memory. All at the leaf's level
 unfoldable pub leafSteps : Regime → Access → Leaf → List Step
 leafSteps r a l =
     step (flagFails r l) AccessFlag (levelOf (l .left))

@@ -32,11 +32,11 @@ spotAt r reads (leaf at v left) = found (offsetOf r at) (record { value = v; lef
 abbrev pub spotOf : Regime → Trace → Spot
 spotOf r t = spotAt r (length (t .visited)) (t .end)
 
--- a regime that rows 3 and 4 let through. No set regime accepts another; in a session of any bytes that has one all the same, no walk finds a table
+-- a regime that rows 3 and 4 let through. No set regime accepts another; in a session of any bytes that has one all the same, no walk finds a table (RULES 10.5)
 abbrev pub usable : Regime → Bool
 usable r = not (sizesBad r || rootsBad r)
 
--- steps 1 to 5 of a page, by its first address
+-- steps 1 to 5 (RULES 6) of a page, by its first address
 unfoldable pub located : Regime → List ℕ → ℕ → Spot
 located r m page = pick (usable r) (spotOf r (traced r (poolBytes (r .pool) m) (page * pageSize pageBits))) (lost (codeOf Translation 0) 0 0)
 

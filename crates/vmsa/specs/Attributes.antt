@@ -1,4 +1,4 @@
--- Memory attributes: eight bytes in one number, byte 0 lowest, as MAIR_EL1 has them.
+-- Memory attributes (RULES 3.1): eight bytes in one number, byte 0 lowest, as MAIR_EL1 has them.
 use Prim.Native.Nat.{ℕ, zero, suc, _*_, _/_, _%_}
 use mathlib.Core.Bool.{Bool, true, false, not, _&&_, _||_}
 use lib.Dec.{eqb}
