@@ -262,22 +262,30 @@ void vmsa_session_invalidate_all(struct vmsa_session *session);
 /* What a number of enum vmsa_refusal says. */
 static inline const char *vmsa_refusal_text(unsigned number)
 {
-    static const char *const texts[] = {
-        "accepted",
-        "the memory or the pool's part of it is out of bounds",
-        "the pool's physical address is out of bounds",
-        "a size field of the regime is out of bounds",
-        "a root is unaligned or not below 2^48",
-        "an attribute byte is neither Device nor Normal memory",
-        "the size or alignment does not fit the kind of access",
-        "the access crosses a page boundary",
-        "the descriptor is unaligned or not in the pool",
-        "the session has no regime"
-    };
-
-    if (number < sizeof texts / sizeof texts[0])
-        return texts[number];
-    return "unknown refusal";
+    switch (number) {
+    case VMSA_ACCEPTED:
+        return "accepted";
+    case VMSA_REFUSED_MEMORY_POOL:
+        return "the memory or the pool's part of it is out of bounds";
+    case VMSA_REFUSED_POOL_ADDRESS:
+        return "the pool's physical address is out of bounds";
+    case VMSA_REFUSED_SIZES:
+        return "a size field of the regime is out of bounds";
+    case VMSA_REFUSED_ROOT:
+        return "a root is unaligned or not below 2^48";
+    case VMSA_REFUSED_ATTRIBUTES:
+        return "an attribute byte is neither Device nor Normal memory";
+    case VMSA_REFUSED_ACCESS_SIZE:
+        return "the size or alignment does not fit the kind of access";
+    case VMSA_REFUSED_PAGE_CROSSING:
+        return "the access crosses a page boundary";
+    case VMSA_REFUSED_STORE_ADDRESS:
+        return "the descriptor is unaligned or not in the pool";
+    case VMSA_REFUSED_NO_REGIME:
+        return "the session has no regime";
+    default:
+        return "unknown refusal";
+    }
 }
 
 #define VMSA_LEVELS(name) \

@@ -7,6 +7,7 @@ pub mod counts;
 pub mod promises;
 pub mod random;
 pub mod reference;
+pub mod refusals;
 pub mod rule3;
 pub mod scripts;
 pub mod session;

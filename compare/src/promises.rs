@@ -1,9 +1,10 @@
-//! What 01 says of every answer, checked on the library's own answer and on
-//! the memory before and after. Of the reference only the leaf's place is
-//! taken.
+//! What RULES 5 to 9 say of every answer, checked on the library's own answer
+//! and on the memory before and after. Of the reference only the leaf's place
+//! is taken.
 
 use crate::boundary::{CAnswer, FAULT, REFUSED, SUCCESS};
 use crate::reference::{Access, Kind, Regime};
+use crate::refusals::WALK;
 
 const AF_BIT: u64 = 1 << 10;
 const AP2_BIT: u64 = 1 << 7;
@@ -83,8 +84,8 @@ pub fn check(
         };
         demand(*answer == alone, "a refusal carries more than its number")?;
         demand(
-            (1..=7).contains(&answer.refusal),
-            "a plain walk refuses with 1 to 7",
+            WALK.contains(&answer.refusal),
+            "refused with a number that a plain walk does not have",
         )?;
     }
 
@@ -148,7 +149,7 @@ pub fn check(
         let base = answer.code.wrapping_sub(u16::from(answer.level));
         demand(
             answer.code == 33 || [0, 4, 8, 12, 20].contains(&base),
-            "a code the paper does not have",
+            "a code that no fault has",
         )?;
         demand(
             answer.cacheable == 0 || answer.code == 33 || base == 12,

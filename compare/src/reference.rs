@@ -1,21 +1,26 @@
-//! The second walker: stage 1, EL1&0, 4 KiB granule, written from the scope
-//! paper (cited as 01, with its heading) and from nothing else.
+//! The second walker: stage 1, EL1&0, 4 KiB granule.
+//!
+//! It was written from document 01 of the customer and from nothing else, and
+//! shares nothing with the library or its bindings. The places cited are those
+//! of docs/RULES.md, which says the same in numbered sections.
 //!
 //! One loop goes down the levels and keeps the list of descriptor addresses;
 //! sums that could pass 2^64 are made in 128 bits.
 
+use crate::refusals;
+
 /// Bytes in a granule: the size of a page and of a table.
 pub const GRANULE: u64 = 4096;
-/// Longest memory that may be lent (01, The guest).
+/// Longest memory that may be lent (RULES 2.1).
 pub const MEMORY_LIMIT: usize = 1_048_576;
-/// Longest pool (01, row 1 of the refusals).
+/// Longest pool (RULES 2.2).
 pub const POOL_LIMIT: usize = 65_536;
-/// Physical addresses lie below this (01, rows 2 and 4).
+/// Physical addresses lie below this (RULES 5.1, rows 2 and 4).
 pub const PHYSICAL_LIMIT: u64 = 1 << 48;
-/// Bits 47..12: where descriptors keep an address (01, The walk, step 4).
+/// Bits 47..12: where descriptors keep an address (RULES 6.2).
 pub const ADDRESS_FIELD: u64 = (PHYSICAL_LIMIT - 1) & !(GRANULE - 1);
 
-/// Places of the leaf fields (01, The walk, "Leaf fields").
+/// Places of the leaf fields (RULES 6.9).
 pub const AP1: u32 = 6;
 pub const AP2: u32 = 7;
 pub const AF: u32 = 10;
@@ -112,7 +117,7 @@ pub struct Stop {
 }
 
 impl Stop {
-    /// 01, The walk, "Codes".
+    /// RULES 9.1.
     pub fn code(&self) -> u16 {
         let level = u16::from(self.level);
         match self.kind {
@@ -175,94 +180,13 @@ pub fn bit(value: u64, place: u32) -> bool {
 }
 
 /// Whether a number is a multiple of a unit above 0.
-fn is_multiple(number: u64, unit: u64) -> bool {
+pub fn is_multiple(number: u64, unit: u64) -> bool {
     number / unit * unit == number
-}
-
-// ---------------------------------------------------------------- refusals
-
-/// 01, row 1: the memory and the pool's place in it.
-pub fn row_1(memory_length: usize, pool: &Pool) -> bool {
-    memory_length > MEMORY_LIMIT
-        || !is_multiple(pool.start as u64, GRANULE)
-        || !is_multiple(pool.length as u64, GRANULE)
-        || pool.length == 0
-        || pool.length > POOL_LIMIT
-        || pool.start as u128 + pool.length as u128 > memory_length as u128
-}
-
-/// 01, row 2: the pool's physical address.
-pub fn row_2(pool: &Pool) -> bool {
-    !is_multiple(pool.address, GRANULE)
-        || u128::from(pool.address) + pool.length as u128 > u128::from(PHYSICAL_LIMIT)
-}
-
-/// 01, row 3: size fields and output code; a disabled range counts too.
-pub fn row_3(regime: &Regime) -> bool {
-    regime.output_code > 5
-        || regime
-            .ranges
-            .iter()
-            .any(|range| range.t < 16 || range.t > 39)
-}
-
-/// 01, row 4: roots; a disabled range counts too.
-pub fn row_4(regime: &Regime) -> bool {
-    regime
-        .ranges
-        .iter()
-        .any(|range| !is_multiple(range.root, GRANULE) || range.root >= PHYSICAL_LIMIT)
-}
-
-/// 01, row 5: Device has four spellings, Normal no empty half.
-pub fn row_5(regime: &Regime) -> bool {
-    let normal = |byte: u8| byte & 0x0F != 0 && byte & 0xF0 != 0;
-    !regime
-        .attributes
-        .iter()
-        .all(|&byte| is_device(byte) || normal(byte))
-}
-
-/// 01, row 6: size, and what fetches and probes ask beyond it.
-pub fn row_6(access: &Access) -> bool {
-    let fetch = access.kind == Kind::Fetch;
-    ![1, 2, 4, 8, 16].contains(&access.size)
-        || (fetch && (access.size != 4 || !is_multiple(access.address, 4)))
-        || (access.kind.is_probe() && access.size != 1)
-}
-
-/// 01, row 7: first and last byte in one page.
-pub fn row_7(access: &Access) -> bool {
-    let last = access.address.wrapping_add(access.size).wrapping_sub(1);
-    access.address / GRANULE != last / GRANULE
-}
-
-/// Rows 1 to 5, as a plain walk and the setting of a regime check them.
-pub fn refusal_of_regime(memory_length: usize, regime: &Regime) -> Option<u8> {
-    let rows = [
-        row_1(memory_length, &regime.pool),
-        row_2(&regime.pool),
-        row_3(regime),
-        row_4(regime),
-        row_5(regime),
-    ];
-    rows.iter().position(|&given| given).map(|at| at as u8 + 1)
-}
-
-/// Rows 6 and 7.
-pub fn refusal_of_access(access: &Access) -> Option<u8> {
-    if row_6(access) {
-        Some(6)
-    } else if row_7(access) {
-        Some(7)
-    } else {
-        None
-    }
 }
 
 // ---------------------------------------------------------------- the shape
 
-/// 01, The walk, step 1: bits of output for each code.
+/// Bits of output for each code (RULES 3.1).
 pub fn output_bits(code: u8) -> u32 {
     [32, 36, 40, 42, 44, 48][usize::from(code)]
 }
@@ -272,7 +196,7 @@ pub fn output_limit(code: u8) -> u64 {
     1 << output_bits(code)
 }
 
-/// 01, The walk, step 2.
+/// The level of the first table (RULES 6.2).
 pub fn first_level(t: u8) -> u8 {
     match t {
         16..=24 => 0,
@@ -281,7 +205,7 @@ pub fn first_level(t: u8) -> u8 {
     }
 }
 
-/// Lowest address bit that picks an entry at this level (01, step 2). A leaf
+/// Lowest address bit that picks an entry at this level (RULES 6.2). A leaf
 /// at this level maps 2 to that many bytes.
 pub fn lowest_index_bit(level: u8) -> u32 {
     39 - 9 * u32::from(level)
@@ -298,11 +222,12 @@ pub fn index_bits(t: u8, level: u8) -> u32 {
     high - low
 }
 
-/// The output address bits of a leaf (01, step 4): 47..30, 47..21, 47..12.
+/// The output address bits of a leaf (RULES 6.2): 47..30, 47..21, 47..12.
 pub fn leaf_address(leaf: &Leaf) -> u64 {
     leaf.descriptor & ADDRESS_FIELD & !((1 << lowest_index_bit(leaf.level)) - 1)
 }
 
+/// RULES 3.3.
 pub fn is_device(attribute: u8) -> bool {
     matches!(attribute, 0x00 | 0x04 | 0x08 | 0x0C)
 }
@@ -313,7 +238,7 @@ pub fn leaf_attribute(regime: &Regime, descriptor: u64) -> u8 {
 }
 
 /// Offset in memory of the descriptor at a physical address, where all its
-/// 8 bytes are in the pool (01, The guest, and The walk, step 3).
+/// 8 bytes are in the pool (RULES 2.3).
 pub fn offset_in_memory(pool: &Pool, address: u64) -> Option<usize> {
     let first = u128::from(pool.address);
     let end = first + pool.length as u128;
@@ -337,8 +262,8 @@ pub fn write_descriptor(memory: &mut [u8], offset: usize, descriptor: u64) {
 
 // ----------------------------------------------------------------- the walk
 
-/// Steps 1 to 5 of 01, The walk: from an address to its leaf. Each
-/// descriptor address is put on the list before the pool is asked for it.
+/// RULES 6.1 to 6.5: from an address to its leaf. Each descriptor address is
+/// put on the list before the pool is asked for it.
 pub fn find_leaf(
     memory: &[u8],
     regime: &Regime,
@@ -348,7 +273,7 @@ pub fn find_leaf(
     let stop = |kind, level| Err(Stop { kind, level });
     let limit = output_limit(regime.output_code);
 
-    // Step 1.
+    // 6.1.
     let upper = bit(address, 55);
     let range = &regime.ranges[usize::from(upper)];
     let top = address >> (64 - u32::from(range.t));
@@ -360,7 +285,7 @@ pub fn find_leaf(
         return stop(FaultKind::AddressSize, 0);
     }
 
-    // Step 2.
+    // 6.2.
     let mut level = first_level(range.t);
     let mut table = range.root;
     loop {
@@ -369,13 +294,13 @@ pub fn find_leaf(
         let entry = table + 8 * index;
         visited.push(entry);
 
-        // Step 3.
+        // 6.3.
         let Some(offset) = offset_in_memory(&regime.pool, entry) else {
             return stop(FaultKind::WalkAbort, level);
         };
         let descriptor = read_descriptor(memory, offset);
 
-        // Steps 4 and 5.
+        // 6.4 and 6.5.
         match (descriptor & 3, level) {
             (3, 0..=2) => {
                 table = descriptor & ADDRESS_FIELD;
@@ -396,12 +321,12 @@ pub fn find_leaf(
     }
 }
 
-/// AP[2] set, but a write may clear it (01, The walk, "W").
+/// AP[2] set, but a write may clear it (RULES 7.1).
 pub fn writable_clean(regime: &Regime, descriptor: u64) -> bool {
     bit(descriptor, AP2) && bit(descriptor, DBM) && regime.ha && regime.hd
 }
 
-/// Direct permissions (01, The walk, last paragraph).
+/// Direct permissions (RULES 7).
 pub fn permitted(regime: &Regime, access: &Access, descriptor: u64) -> bool {
     let user = bit(descriptor, AP1);
     let writable = !bit(descriptor, AP2) || writable_clean(regime, descriptor);
@@ -421,7 +346,7 @@ pub fn permitted(regime: &Regime, access: &Access, descriptor: u64) -> bool {
     }
 }
 
-/// Steps 6 to 8 of 01, The walk: may this access use this leaf?
+/// RULES 6.6 to 6.8: may this access use this leaf?
 fn judge(regime: &Regime, access: &Access, descriptor: u64) -> Result<(), FaultKind> {
     let device = is_device(leaf_attribute(regime, descriptor));
     let misaligned = access.kind.moves_data() && !is_multiple(access.address, access.size);
@@ -438,7 +363,7 @@ fn judge(regime: &Regime, access: &Access, descriptor: u64) -> Result<(), FaultK
 }
 
 /// What an access on a leaf answers, and the leaf's descriptor afterwards
-/// (01, Marks and answers). A mark is told only where a bit changed.
+/// (RULES 8 and 9). A mark is told only where a bit changed.
 pub fn settle(regime: &Regime, access: &Access, leaf: &Leaf, reads: u8) -> (Answer, u64) {
     let before = leaf.descriptor;
     if let Err(kind) = judge(regime, access, before) {
@@ -473,9 +398,9 @@ pub fn settle(regime: &Regime, access: &Access, leaf: &Leaf, reads: u8) -> (Answ
     (Answer::Success(success), after)
 }
 
-/// The plain walk: refusals 1 to 7, the steps, the marks.
+/// The plain walk: its refusals, its steps, its marks.
 pub fn walk(memory: &mut [u8], regime: &Regime, access: &Access) -> Walk {
-    let refusal = refusal_of_regime(memory.len(), regime).or_else(|| refusal_of_access(access));
+    let refusal = refusals::of_walk(memory.len(), regime, access);
     let mut visited = Vec::with_capacity(4);
     if let Some(number) = refusal {
         return Walk {

@@ -1,12 +1,10 @@
-//! Rule 3 (00, made exact in 01, "The session") as a claim about a list of
-//! calls and replies. Nothing here looks into a session: what it remembers
-//! is read off its replies.
+//! Rule 3 (RULES 11) as a claim about a list of calls and replies. Nothing
+//! here looks into a session: what it remembers is read off its replies.
 
 use crate::boundary::{plain_answer, CAnswer, Reply, REFUSED};
-use crate::reference::{
-    offset_in_memory, refusal_of_regime, row_1, walk, write_descriptor, Access, Regime,
-};
-use crate::session::{page_of, place_of, row_8, Call};
+use crate::reference::{offset_in_memory, walk, write_descriptor, Access, Regime};
+use crate::refusals;
+use crate::session::{page_of, place_of, Call};
 
 /// A call, its reply, and the memory before and after it.
 #[derive(Clone, Copy, Debug)]
@@ -52,7 +50,7 @@ impl Event {
     }
 }
 
-/// What the last sentence of rule 3 says of a new access.
+/// What the second half (RULES 11.3) says of a new access.
 #[derive(Clone, Copy, Debug, PartialEq, Eq, PartialOrd, Ord)]
 pub enum Class {
     /// Refused with 9.
@@ -147,13 +145,14 @@ impl History {
         let mut memory = self.found(event).to_vec();
         match (event.call, event.reply) {
             (Call::SetRegime(regime), Reply::Changed(number)) => {
-                let wanted = refusal_of_regime(event.lent, &regime).unwrap_or(0);
+                let wanted = refusals::of_set_regime(event.lent, &regime).unwrap_or(0);
                 demand(number == wanted, "set regime is refused wrongly");
             }
             (Call::Store { address, value }, Reply::Changed(number)) => {
-                let wanted = past.refusal_of_store(event.lent, address).unwrap_or(0);
+                let regime = past.regime();
+                let wanted = refusals::of_store(event.lent, regime.as_ref(), address).unwrap_or(0);
                 demand(number == wanted, "a store is refused wrongly");
-                if let (0, Some(regime)) = (number, past.regime()) {
+                if let (0, Some(regime)) = (number, regime) {
                     match offset_in_memory(&regime.pool, address) {
                         Some(offset) => write_descriptor(&mut memory, offset, value),
                         None => demand(false, "a store beside the pool is accepted"),
@@ -247,21 +246,8 @@ impl<'a> Past<'a> {
         walks.next().map(|(at, ..)| at)
     }
 
-    fn refusal_of_store(&self, lent: usize, address: u64) -> Option<u8> {
-        let Some(regime) = self.regime() else {
-            return Some(9);
-        };
-        if row_1(lent, &regime.pool) {
-            Some(1)
-        } else if row_8(&regime.pool, address) {
-            Some(8)
-        } else {
-            None
-        }
-    }
-
-    /// The plain walk of this moment, its count put to 0, and the bytes it
-    /// leaves; nothing where a store came after the last emptying, or
+    /// RULES 11.2: the plain walk of this moment, its count put to 0, and the
+    /// bytes it leaves; nothing where a store came after the last emptying, or
     /// before any regime.
     fn first_half(
         &self,
@@ -279,9 +265,9 @@ impl<'a> Past<'a> {
         Some((CAnswer { reads: 0, ..answer }, bytes))
     }
 
-    /// The answer that a new access must get over a memory of any bytes,
-    /// which is left as the access must leave it. Nothing is said where the
-    /// memory is not as long as that of the access which is looked back on.
+    /// RULES 11.3: the answer that a new access must get over a memory of any
+    /// bytes, which is left as the access must leave it. Nothing is said where
+    /// the memory is not as long as that of the access which is looked back on.
     pub fn promise(
         &self,
         access: &Access,

@@ -1,10 +1,11 @@
-//! The session of 01 ("The session"): a regime and 64 places that remember
-//! leaves, on top of the second walker.
+//! The session (RULES 10): a regime and 64 places that remember leaves, on top
+//! of the second walker. A place is what RULES calls an entry.
 
 use crate::reference::{
-    offset_in_memory, read_descriptor, refusal_of_access, refusal_of_regime, row_1, settle, walk,
-    write_descriptor, Access, Answer, Leaf, Pool, Regime, Walk, GRANULE,
+    offset_in_memory, read_descriptor, settle, walk, write_descriptor, Access, Answer, Leaf,
+    Regime, Walk, GRANULE,
 };
+use crate::refusals;
 
 pub const PLACES: usize = 64;
 
@@ -52,11 +53,6 @@ pub enum Way {
     WalkedAgain(Walk),
 }
 
-/// 01, row 8: a store's address.
-pub fn row_8(pool: &Pool, address: u64) -> bool {
-    address & 7 != 0 || offset_in_memory(pool, address).is_none()
-}
-
 impl Session {
     /// No regime, every place empty.
     pub const FRESH: Session = Session {
@@ -64,9 +60,9 @@ impl Session {
         places: [None; PLACES],
     };
 
-    /// The refusal, if there is one (1 to 5).
+    /// The refusal, if there is one.
     pub fn set_regime(&mut self, memory_length: usize, regime: &Regime) -> Option<u8> {
-        let refusal = refusal_of_regime(memory_length, regime);
+        let refusal = refusals::of_set_regime(memory_length, regime);
         if refusal.is_none() {
             self.regime = Some(*regime);
             self.drop_all();
@@ -74,15 +70,13 @@ impl Session {
         refusal
     }
 
-    /// Refused with 9, 1, 6 or 7; else from the place or by a walk.
+    /// Refused; or else answered from the place or by a walk.
     pub fn access(&mut self, memory: &mut [u8], access: &Access) -> (Answer, Way) {
-        let regime = match self.regime_over(memory.len()) {
+        let refusal = refusals::of_access(memory.len(), self.regime.as_ref(), access);
+        let regime = match self.go_on(refusal) {
             Ok(regime) => regime,
             Err(number) => return (Answer::Refused(number), Way::Refused),
         };
-        if let Some(number) = refusal_of_access(access) {
-            return (Answer::Refused(number), Way::Refused);
-        }
 
         let page = page_of(access.address);
         let place = &mut self.places[place_of(page)];
@@ -115,31 +109,27 @@ impl Session {
         }
     }
 
-    /// The refusal, if there is one (9, 1, 8). No place changes.
+    /// The refusal, if there is one. No place changes.
     pub fn store(&mut self, memory: &mut [u8], address: u64, value: u64) -> Option<u8> {
-        let regime = match self.regime_over(memory.len()) {
+        let refusal = refusals::of_store(memory.len(), self.regime.as_ref(), address);
+        let regime = match self.go_on(refusal) {
             Ok(regime) => regime,
             Err(number) => return Some(number),
         };
-        match offset_in_memory(&regime.pool, address) {
-            Some(offset) if !row_8(&regime.pool, address) => {
-                write_descriptor(memory, offset, value);
-                None
-            }
-            _ => Some(8),
-        }
+        let offset = offset_in_memory(&regime.pool, address);
+        write_descriptor(memory, offset.expect("row 8 does not apply"), value);
+        None
     }
 
     pub fn drop_all(&mut self) {
         self.places = [None; PLACES];
     }
 
-    /// Refusals 9 and 1, which access and store share.
-    fn regime_over(&self, memory_length: usize) -> Result<Regime, u8> {
-        let regime = self.regime.ok_or(9)?;
-        if row_1(memory_length, &regime.pool) {
-            return Err(1);
+    /// The regime to go on with, where there is no refusal.
+    fn go_on(&self, refusal: Option<u8>) -> Result<Regime, u8> {
+        match refusal {
+            Some(number) => Err(number),
+            None => Ok(self.regime.expect("row 9 does not apply")),
         }
-        Ok(regime)
     }
 }

@@ -8,6 +8,7 @@ use crate::reference::{
     bit, first_level, is_device, leaf_address, offset_in_memory, output_limit, read_descriptor,
     Access, Answer, FaultKind, Kind, Leaf, Regime, Walk, ADDRESS_FIELD, GRANULE, MEMORY_LIMIT,
 };
+use crate::refusals::WALK;
 use std::collections::{BTreeMap, BTreeSet};
 use std::fmt;
 
@@ -62,7 +63,7 @@ pub enum Feature {
     Tag(u8),
     Refusal(u8),
     Code(u16),
-    /// A fault of step 1, which reads nothing.
+    /// A fault of RULES 6.1, which reads nothing.
     AtOnce(FaultKind),
     /// First level and level of a fault met on the way.
     Fault(FaultKind, u8, u8),
@@ -97,7 +98,7 @@ impl Countable for Feature {
             F::Tag(_) => "answers",
             F::Refusal(_) => "refusals",
             F::Code(_) => "fault codes",
-            F::AtOnce(_) => "faults of step 1",
+            F::AtOnce(_) => "faults before any read",
             F::Fault(..) => "faults by first level > level",
             F::Success(..) => "successes by first level > level",
             F::Reads(..) => "reads",
@@ -181,13 +182,13 @@ impl fmt::Display for Feature {
     }
 }
 
-/// Everything that 01 lets occur.
+/// Everything that RULES lets occur.
 fn possible() -> BTreeSet<Feature> {
     let mut all = BTreeSet::new();
     all.extend([SUCCESS, FAULT, REFUSED].map(F::Tag));
-    all.extend((1..=7).map(F::Refusal));
+    all.extend(WALK.iter().copied().map(F::Refusal));
 
-    // Step 1 gives two faults; leaves are at levels 1 to 3 only.
+    // Two faults come before any read; leaves are at levels 1 to 3 only.
     all.insert(F::AtOnce(FaultKind::Translation));
     all.insert(F::AtOnce(FaultKind::AddressSize));
     for first in 0..=2 {

@@ -1,6 +1,7 @@
-//! P1 to P12 of 01 held against the reference, and a check that the cases
-//! meet all they should.
+//! The worked cases, P1 to P12 (RULES 12), held against the reference, and a
+//! check that the cases meet all they should.
 
+mod refusals;
 mod rule3;
 mod session;
 mod spare;
@@ -131,7 +132,7 @@ fn p3_probe_write() {
     assert_eq!(success.output, 0x8000_5ABC);
     assert!(!success.accessed && !success.dirtied && !success.rememberable);
     assert_eq!(read_descriptor(&memory, LEAF_OFFSET), LEAF);
-    // With size 4 row 6 comes first.
+    // With size 4 it is refused.
     let walk = go(&mut memory, &regime, &access(Kind::ProbeWrite));
     assert_eq!(walk.answer, Answer::Refused(6));
 }

@@ -1,6 +1,6 @@
 //! What a device asks for.
 
-use crate::{ffi, VirtAddr};
+use crate::{check, ffi, Problem, VirtAddr};
 
 /// The kind of an access.
 #[derive(Clone, Copy, Debug, PartialEq, Eq, Hash)]
@@ -115,6 +115,28 @@ impl Access {
     pub const fn el1(mut self) -> Self {
         self.el = ExceptionLevel::El1;
         self
+    }
+
+    /// Says in words why the access itself would be refused, whatever the
+    /// regime and the memory. As with [`Regime::check`](crate::Regime::check),
+    /// no call needs this, and the library decides.
+    ///
+    /// # Errors
+    ///
+    /// The first cause that applies; [`Problem`] has the order.
+    ///
+    /// ```
+    /// use vmsa::{Access, VirtAddr};
+    ///
+    /// let across = Access::read(VirtAddr(0x40_3ffd), 4);
+    /// assert_eq!(
+    ///     across.check().unwrap_err().to_string(),
+    ///     "refused with 7: the first byte, 0x403ffd, and the last, 0x404000, lie in different pages",
+    /// );
+    /// assert_eq!(Access::read(VirtAddr(0x40_3ffc), 4).check(), Ok(()));
+    /// ```
+    pub fn check(&self) -> Result<(), Problem> {
+        check::of_access(self)
     }
 }
 

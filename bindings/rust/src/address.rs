@@ -3,7 +3,20 @@
 use std::fmt;
 
 /// A physical address: of the pool, a table, a descriptor or an output.
-#[derive(Clone, Copy, Debug, Default, PartialEq, Eq, PartialOrd, Ord, Hash)]
+///
+/// It is shown in hexadecimal, by itself and in what holds it:
+///
+/// ```
+/// # use vmsa::{PhysAddr, Range};
+/// let root = PhysAddr(0x4000_0000);
+/// assert_eq!(format!("{root}"), "0x40000000");
+/// assert_eq!(format!("{root:?}"), "PhysAddr(0x40000000)");
+/// assert_eq!(
+///     format!("{:?}", Range::new(root, 16)),
+///     "Range { root: PhysAddr(0x40000000), tsz: 16, disabled: false }",
+/// );
+/// ```
+#[derive(Clone, Copy, Default, PartialEq, Eq, PartialOrd, Ord, Hash)]
 pub struct PhysAddr(pub u64);
 
 /// An address of the guest.
@@ -14,7 +27,7 @@ pub struct PhysAddr(pub u64);
 /// # use vmsa::{Access, PhysAddr};
 /// Access::read(PhysAddr(0x1000), 4);
 /// ```
-#[derive(Clone, Copy, Debug, Default, PartialEq, Eq, PartialOrd, Ord, Hash)]
+#[derive(Clone, Copy, Default, PartialEq, Eq, PartialOrd, Ord, Hash)]
 pub struct VirtAddr(pub u64);
 
 macro_rules! address {
@@ -28,6 +41,12 @@ macro_rules! address {
         impl From<$name> for u64 {
             fn from(address: $name) -> Self {
                 address.0
+            }
+        }
+
+        impl fmt::Debug for $name {
+            fn fmt(&self, f: &mut fmt::Formatter<'_>) -> fmt::Result {
+                write!(f, "{}({self})", stringify!($name))
             }
         }
 

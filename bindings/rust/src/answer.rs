@@ -3,7 +3,7 @@
 use std::error::Error;
 use std::fmt;
 
-use crate::{ffi, PhysAddr};
+use crate::{ffi, PhysAddr, Refusal};
 
 /// The answer to an access: where it goes, or what stops it.
 ///
@@ -187,91 +187,6 @@ impl fmt::Display for Fault {
 }
 
 impl Error for Fault {}
-
-/// Why a call is refused. It then changes neither memory nor session.
-///
-/// A [`walk`](crate::walk()) checks 1 to 7 in that order; setting a regime 1
-/// to 5; an access in a session 9, 1, 6, 7; a store 9, 1, 8.
-///
-/// ```
-/// use vmsa::Refusal;
-///
-/// assert_eq!(Refusal::PageCrossing.number(), 7);
-/// assert_eq!(
-///     Refusal::PageCrossing.to_string(),
-///     "refused (7): the access crosses a page boundary",
-/// );
-/// ```
-#[derive(Clone, Copy, Debug, PartialEq, Eq, Hash)]
-pub enum Refusal {
-    /// 1: memory above its limit; pool start or length not a multiple of
-    /// 4,096; pool empty, above its limit, or past the end of the memory.
-    MemoryPool,
-    /// 2: pool address not a multiple of 4,096, or the pool ends above 2^48.
-    PoolAddress,
-    /// 3: T of a range outside 16 to 39.
-    Sizes,
-    /// 4: a root that is not a multiple of 4,096, or not below 2^48.
-    Root,
-    /// 5: an attribute byte is neither 0x00, 0x04, 0x08, 0x0C (Device) nor has
-    /// both halves nonzero (Normal).
-    Attributes,
-    /// 6: size not 1, 2, 4, 8, 16; a fetch whose size is not 4 or address not
-    /// a multiple of 4; a probe whose size is not 1.
-    AccessSize,
-    /// 7: first and last byte lie in different pages.
-    PageCrossing,
-    /// 8: a store's address is not a multiple of 8, or its bytes are not all
-    /// in the pool.
-    StoreAddress,
-    /// 9: the session has no regime yet.
-    NoRegime,
-}
-
-impl Refusal {
-    /// Every refusal, in the order of the numbers.
-    pub const ALL: [Self; 9] = [
-        Self::MemoryPool,
-        Self::PoolAddress,
-        Self::Sizes,
-        Self::Root,
-        Self::Attributes,
-        Self::AccessSize,
-        Self::PageCrossing,
-        Self::StoreAddress,
-        Self::NoRegime,
-    ];
-
-    /// The number, 1 to 9.
-    pub const fn number(self) -> u8 {
-        self as u8 + 1
-    }
-
-    pub(crate) fn from_number(number: u8) -> Option<Self> {
-        Self::ALL
-            .into_iter()
-            .find(|refusal| refusal.number() == number)
-    }
-}
-
-impl fmt::Display for Refusal {
-    fn fmt(&self, f: &mut fmt::Formatter<'_>) -> fmt::Result {
-        let reason = match self {
-            Self::MemoryPool => "the memory or the pool's part of it is out of bounds",
-            Self::PoolAddress => "the pool's physical address is out of bounds",
-            Self::Sizes => "a size field of the regime is out of bounds",
-            Self::Root => "a root is unaligned or not below 2^48",
-            Self::Attributes => "an attribute byte is neither Device nor Normal memory",
-            Self::AccessSize => "the size or alignment does not fit the kind of access",
-            Self::PageCrossing => "the access crosses a page boundary",
-            Self::StoreAddress => "the descriptor is unaligned or not in the pool",
-            Self::NoRegime => "the session has no regime",
-        };
-        write!(f, "refused ({}): {reason}", self.number())
-    }
-}
-
-impl Error for Refusal {}
 
 /// What stops an access.
 #[derive(Clone, Copy, Debug, PartialEq, Eq, Hash)]

@@ -4,15 +4,17 @@
 //! A device that reads or writes guest memory asks [`walk`], or a [`Session`]
 //! that holds translations, for the physical address. The walk obeys the
 //! guest's permissions, sets the Access flag and marks written pages dirty,
-//! as the hardware would. The work is done by a proved library with a C
-//! interface; this crate is its safe form.
+//! as the hardware would, for a guest that uses none of the features
+//! [below](#what-a-guest-must-not-use). The work is done by a proved library
+//! with a C interface; this crate is its safe form.
 //!
-//! The caller lends a memory of at most [`MEMORY_LIMIT`] bytes. The guest's
-//! tables lie in a part of it, the [`Pool`]; no byte outside the pool is
-//! changed or has a say in any answer. Nothing needs checking before a call:
-//! any bytes, any regime and any access get an answer, which is a
-//! [`Translation`], a [`Fault`] for the guest, or a [`Refusal`] where the call
-//! itself makes no sense. Neither a fault nor a refusal changes the memory.
+//! The caller lends a memory. The guest's tables lie in a part of it, the
+//! [`Pool`]; no byte outside the pool is changed or has a say in any answer.
+//! Nothing needs checking before a call: any bytes, any regime and any access
+//! get an answer, which is a [`Translation`], a [`Fault`] for the guest, or a
+//! [`Refusal`] where the call itself makes no sense. Neither a fault nor a
+//! refusal changes the memory. `docs/RULES.md`, in the library's repository,
+//! has all the rules.
 //!
 //! ```
 //! use vmsa::{Access, OutputSize, PhysAddr, Pool, Range, Regime, VirtAddr};
@@ -45,6 +47,38 @@
 //! assert_eq!(stop.to_string(), "Translation fault, level 3 (0b000111)");
 //! # Ok::<(), vmsa::Stop>(())
 //! ```
+//!
+//! # Limits
+//!
+//! A memory has at most [`MEMORY_LIMIT`] bytes, and its pool at most
+//! [`POOL_LIMIT`]. Lend the pool, not the guest's RAM: the memory may be the
+//! pool and nothing else. What a regime or an access is refused for,
+//! [`Regime::check`] and [`Access::check`] say in words.
+//!
+//! # What a guest must not use
+//!
+//! - Top-byte-ignore (TCR_EL1.TBI0, TBI1) and tagged addresses
+//! - 52-bit addresses (FEAT_LPA, FEAT_LPA2)
+//! - Attribute byte 0xF0 (FEAT_MTE2), and those of FEAT_XS with one half zero
+//! - PAN and EPAN; E0PD0, E0PD1, NFD0 and NFD1
+//! - The Contiguous bit
+//! - Permission indirection and overlays (FEAT_S1PIE, FEAT_S1POE)
+//! - Protected table walks (HCR_EL2.PTW), and the protections of FEAT_THE
+//! - The Access flag of table descriptors (TCR2_EL1.HAFT)
+//! - Concatenated tables at the first level
+//! - Realm and Secure state
+//! - Unaligned atomics, and atomics where memory does not support them
+//! - Alignment checking of Normal memory (SCTLR_EL1.A)
+//! - Stage 1 switched off (SCTLR_EL1.M 0)
+//! - 128-bit descriptors (FEAT_D128), VMSAv8-32
+//! - Until they are added: table attributes (APTable, UXNTable, PXNTable, HPD0,
+//!   HPD1), ASIDs, big-endian tables (SCTLR_EL1.EE), granules of 16 KiB and
+//!   64 KiB, stage 2
+//!
+//! Most of these are settings that the library is not told of: it walks the
+//! tables all the same, and its answer need not be the hardware's.
+//! `docs/RULES.md`, section 14, says of each what the library does, and what
+//! hardware would do.
 //!
 //! # Threads
 //!
@@ -110,13 +144,18 @@
 mod access;
 mod address;
 mod answer;
+mod check;
 mod ffi;
+mod problem;
+mod refusal;
 mod regime;
 mod session;
 
 pub use access::{Access, AccessKind, ExceptionLevel};
 pub use address::{PhysAddr, VirtAddr};
-pub use answer::{Answer, Fault, FaultKind, Refusal, Shareability, Stop, Translation};
+pub use answer::{Answer, Fault, FaultKind, Shareability, Stop, Translation};
+pub use problem::Problem;
+pub use refusal::Refusal;
 pub use regime::{OutputSize, Pool, Range, Regime};
 pub use session::Session;
 
@@ -139,7 +178,7 @@ pub fn version() -> u32 {
 /// On success with HA on, the leaf's Access flag is set; with HD on too, a
 /// write or update of a writable-clean page (DBM and AP\[2\] both 1) also
 /// clears AP\[2\]. A probe changes nothing, and so does whatever stops the
-/// walk. The checks run in the order of [`Refusal`]'s numbers 1 to 7.
+/// walk. [`Refusal`] has the order of the checks.
 ///
 /// ```
 /// use vmsa::{walk, Access, Refusal, Regime, Stop, VirtAddr};

@@ -1,6 +1,6 @@
 //! The translation regime, built up setting by setting.
 
-use crate::{ffi, PhysAddr};
+use crate::{check, ffi, PhysAddr, Problem};
 
 /// The table pool: its part of the lent memory, and the physical address of
 /// its first byte.
@@ -239,6 +239,38 @@ impl Regime {
     pub const fn attribute(mut self, index: usize, byte: u8) -> Self {
         self.attributes[index] = byte;
         self
+    }
+
+    /// Says in words why [`set_regime`](crate::Session::set_regime) and
+    /// [`walk`](crate::walk()) would refuse the regime over a memory of so
+    /// many bytes.
+    ///
+    /// The memory itself is not needed, so a monitor can check its numbers
+    /// before it has one. No call needs this check: the library decides, and
+    /// makes its own, proved ones.
+    ///
+    /// # Errors
+    ///
+    /// The first cause that applies; [`Problem`] has the order.
+    ///
+    /// ```
+    /// use vmsa::{PhysAddr, Pool, Range, Regime, Session};
+    ///
+    /// # let memory = [0; 0x1000];
+    /// let regime = Regime::new()
+    ///     .pool(Pool::new(0, 0x1000, PhysAddr(0x4000_0000)))
+    ///     .range0(Range::new(PhysAddr(0x4000_0008), 25));
+    ///
+    /// let problem = regime.check(memory.len()).unwrap_err();
+    /// assert_eq!(
+    ///     problem.to_string(),
+    ///     "refused with 4: the root of range 0, 0x40000008, is no multiple of 4096",
+    /// );
+    /// let refused = Session::new().set_regime(&memory, &regime);
+    /// assert_eq!(refused, Err(problem.refusal()));
+    /// ```
+    pub fn check(&self, memory_length: usize) -> Result<(), Problem> {
+        check::of_regime(self, memory_length)
     }
 }
 

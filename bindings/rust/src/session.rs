@@ -62,7 +62,8 @@ impl Session {
     ///
     /// # Errors
     ///
-    /// [`Refusal`] 1 to 5, checked in that order.
+    /// A [`Refusal`], which has the order of the checks. [`Regime::check`]
+    /// names the cause.
     pub fn set_regime(&mut self, memory: &[u8], regime: &Regime) -> Result<(), Refusal> {
         accepted(ffi::session_set_regime(
             &mut self.words,
@@ -75,7 +76,7 @@ impl Session {
     ///
     /// # Errors
     ///
-    /// A fault; or [`Refusal`] 9, 1, 6 or 7, checked in that order.
+    /// A fault, or a [`Refusal`], which has the order of the checks.
     pub fn access(&mut self, memory: &mut [u8], access: &Access) -> Answer {
         ffi::session_access(&mut self.words, memory, &access.into()).into()
     }
@@ -85,7 +86,7 @@ impl Session {
     ///
     /// # Errors
     ///
-    /// [`Refusal`] 9, 1 or 8, checked in that order.
+    /// A [`Refusal`], which has the order of the checks.
     pub fn store(
         &mut self,
         memory: &mut [u8],

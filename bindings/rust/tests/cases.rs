@@ -1,4 +1,4 @@
-//! The twelve worked cases, P1 to P12.
+//! The twelve worked cases, P1 to P12 (`docs/RULES.md`, 12).
 
 mod tables;
 

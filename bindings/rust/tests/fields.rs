@@ -564,7 +564,7 @@ fn answer_of_a_refusal() {
         assert!(after == memory());
         assert!(answer
             .to_string()
-            .starts_with(&format!("refused ({number}): ")));
+            .starts_with(&format!("refused with {number}: ")));
     }
 
     // The pool may end at 2^48 exactly, and the memory has a limit.
@@ -578,7 +578,19 @@ fn answer_of_a_refusal() {
         refusal(ask(&large, &regime(), &read())),
         Refusal::MemoryPool
     );
-    for (i, refusal) in Refusal::ALL.into_iter().enumerate() {
-        assert_eq!(usize::from(refusal.number()), i + 1);
-    }
+}
+
+#[test]
+fn addresses_in_hexadecimal() {
+    let regime = format!("{:?}", regime());
+    assert!(regime.contains("address: PhysAddr(0x40000000)"), "{regime}");
+    assert!(regime.contains("root: PhysAddr(0x40000000)"), "{regime}");
+    let access = format!("{:?}", read());
+    assert!(access.contains("address: VirtAddr(0x403abc)"), "{access}");
+    let answer = format!("{:?}", ask(&memory(), &tables::regime(), &read()));
+    assert!(answer.contains("output: PhysAddr(0x80005abc)"), "{answer}");
+    assert_eq!(
+        format!("{:x} {:#X}", PhysAddr(0xabc), ADDRESS),
+        "abc 0x403ABC"
+    );
 }

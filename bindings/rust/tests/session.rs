@@ -3,7 +3,7 @@
 
 mod tables;
 
-use tables::{get, memory, put, read, regime, write, ADDRESS, CLEAN, LEAF, POOL};
+use tables::{get, memory, put, read, regime, write, Random, ADDRESS, CLEAN, LEAF, POOL};
 use vmsa::{
     walk, Access, AccessKind, Answer, FaultKind, PhysAddr, Pool, Range, Refusal, Session, Stop,
     VirtAddr,
@@ -188,31 +188,15 @@ fn same_calls_same_session() {
     assert!(memories[0] == memories[1]);
 }
 
-/// xorshift64.
-struct Random(u64);
-
-impl Random {
-    fn next(&mut self) -> u64 {
-        self.0 ^= self.0 << 13;
-        self.0 ^= self.0 >> 7;
-        self.0 ^= self.0 << 17;
-        self.0
-    }
-
-    fn below(&mut self, limit: u64) -> u64 {
-        (self.next() >> 16) % limit
-    }
-
-    /// A descriptor that often leads somewhere: a table in the pool (a page
-    /// at level 3), or a block, with any permissions.
-    fn descriptor(&mut self) -> u64 {
-        let leaf = self.next() & 0x0068_0000_0000_0ffc;
-        match self.below(32) {
-            0 => self.next(),
-            1 => 0,
-            2..=20 => (POOL + 0x1000 * self.below(17)) | leaf | 3,
-            _ => 0x8000_0000 | self.below(0x10000) << 12 | leaf | 1,
-        }
+/// A descriptor that often leads somewhere: a table in the pool (a page at
+/// level 3), or a block, with any permissions.
+fn descriptor(random: &mut Random) -> u64 {
+    let leaf = random.next() & 0x0068_0000_0000_0ffc;
+    match random.below(32) {
+        0 => random.next(),
+        1 => 0,
+        2..=20 => (POOL + 0x1000 * random.below(17)) | leaf | 3,
+        _ => 0x8000_0000 | random.below(0x10000) << 12 | leaf | 1,
     }
 }
 
@@ -225,7 +209,11 @@ fn as_the_plain_walk() {
         let mut memory = vec![0; 0x12000];
         for slot in 0..32 {
             for page in 0..18 {
-                put(&mut memory, 0x1000 * page + 8 * slot, random.descriptor());
+                put(
+                    &mut memory,
+                    0x1000 * page + 8 * slot,
+                    descriptor(&mut random),
+                );
             }
         }
         let mut session = Session::new();
@@ -234,7 +222,7 @@ fn as_the_plain_walk() {
             let before = memory.clone();
             match random.below(24) {
                 0 => {
-                    let tsz = [16, 20, 25, 34, 36, 39, 15][random.below(7) as usize];
+                    let tsz = random.pick(&[16, 20, 25, 34, 36, 39, 15]);
                     let range = Range::new(PhysAddr(POOL + 0x1000 * random.below(16)), tsz);
                     let next = regime()
                         .pool(Pool::new(0x1000, 0x10000, PhysAddr(POOL)))
@@ -251,7 +239,7 @@ fn as_the_plain_walk() {
                 }
                 1 => {
                     let offset = 0x1000 * random.below(17) + 8 * random.below(32);
-                    let value = random.descriptor();
+                    let value = descriptor(&mut random);
                     let answer = session.store(&mut memory, PhysAddr(POOL + offset), value);
                     let mut expected = before;
                     if answer.is_ok() {
@@ -271,8 +259,8 @@ fn as_the_plain_walk() {
                         _ => 48,
                     };
                     let mask = (1 << bits) - 1;
-                    let top = [0, 0, 0, !mask][random.below(4) as usize];
-                    let kind = AccessKind::ALL[random.below(6) as usize];
+                    let top = random.pick(&[0, 0, 0, !mask]);
+                    let kind = random.pick(&AccessKind::ALL);
                     let size = match kind {
                         AccessKind::Fetch => 4,
                         AccessKind::ProbeRead | AccessKind::ProbeWrite => 1,

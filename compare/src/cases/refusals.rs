@@ -1,11 +1,12 @@
-//! Refusals 1 to 7: each at its limit, one past it, and in pairs, where the
-//! lower number must come first.
+//! The refusals of a plain walk: each row (RULES 5.1) at its limit, one past
+//! it, and in pairs, where the row that is looked at first must be given.
 
 use super::scene::{draw_leaf, Placement, Scene};
 use super::Maker;
 use crate::promises::Expect;
 use crate::random::Random;
 use crate::reference::{Access, Kind, GRANULE, MEMORY_LIMIT, PHYSICAL_LIMIT, POOL_LIMIT};
+use crate::refusals::{is_before, WALK};
 
 const FAMILY: &str = "refusals";
 const PAGE: usize = GRANULE as usize;
@@ -59,8 +60,8 @@ pub fn run(maker: &mut Maker) {
     }
     for (row, change) in &changes.past {
         for (other_row, other) in &changes.past {
-            if row < other_row {
-                // The lower row last, so that its reason surely stands.
+            if is_before(WALK, *row, *other_row) {
+                // The first row last, so that its reason surely stands.
                 ask(maker, &[other, change], Expect::Refused(*row));
             }
         }

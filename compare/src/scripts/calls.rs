@@ -6,9 +6,10 @@ use crate::boundary::Spelling;
 use crate::cases::scene::{draw_access, draw_access_of, draw_table};
 use crate::random::Random;
 use crate::reference::{
-    find_leaf, is_device, offset_in_memory, output_limit, read_descriptor, row_1, writable_clean,
-    Access, Kind, Regime, AF, AP1, AP2, DBM, GRANULE, PHYSICAL_LIMIT, POOL_LIMIT, PXN, UXN,
+    find_leaf, is_device, offset_in_memory, output_limit, read_descriptor, writable_clean, Access,
+    Kind, Regime, AF, AP1, AP2, DBM, GRANULE, PHYSICAL_LIMIT, POOL_LIMIT, PXN, UXN,
 };
+use crate::refusals::{row_1, SET_REGIME};
 use crate::session::{Call, Held, Session};
 
 /// How often each sort of call comes.
@@ -309,15 +310,16 @@ impl Script {
         }
     }
 
-    /// A regime that is refused, and differs from home in more than that.
+    /// A regime to which a row applies, and which differs from home in more
+    /// than that.
     fn draw_bad_regime(&mut self) -> Regime {
         let home = self.world.regimes[0];
         let random = &mut self.random;
         let mut regime = vary(random, &home);
         let range = random.below(2) as usize;
         let pool = &mut regime.pool;
-        match random.below(5) {
-            0 => match random.below(6) {
+        match random.pick(SET_REGIME) {
+            1 => match random.below(6) {
                 0 => pool.start += 8,
                 1 => pool.length = 0,
                 2 => pool.length = POOL_LIMIT + GRANULE as usize,
@@ -325,24 +327,25 @@ impl Script {
                 4 => pool.start = usize::MAX - (GRANULE as usize - 1),
                 _ => pool.length += 1,
             },
-            1 => match random.below(3) {
+            2 => match random.below(3) {
                 0 => pool.address |= 1 << random.below(12),
                 1 => pool.address = PHYSICAL_LIMIT,
                 _ => pool.address = u64::MAX - (GRANULE - 1),
             },
-            2 => match random.below(3) {
+            3 => match random.below(3) {
                 0 => regime.ranges[range].t = 15,
                 1 => regime.ranges[range].t = 40,
                 _ => regime.output_code = 6,
             },
-            3 => match random.below(2) {
+            4 => match random.below(2) {
                 0 => regime.ranges[range].root |= 1 << random.below(12),
                 _ => regime.ranges[range].root |= 1 << random.between(48, 63),
             },
-            _ => {
+            5 => {
                 let byte = random.pick(&[0x01, 0x0F, 0x10, 0x40, 0xF0]);
                 regime.attributes[random.below(8) as usize] = byte;
             }
+            row => panic!("no regime is made for row {row}"),
         }
         regime
     }

@@ -4,6 +4,7 @@ use super::play::Bytes;
 use crate::boundary::{FAULT, SUCCESS};
 use crate::counts::Countable;
 use crate::reference::{FaultKind, Kind};
+use crate::refusals::{ACCESS, SET_REGIME, STORE};
 use crate::rule3::Class;
 use crate::session::PLACES;
 use crate::tally::{level_name, End};
@@ -263,7 +264,8 @@ fn replies(all: &mut BTreeSet<Feature>) {
         .map(F::Sum),
     );
     for stood in [false, true] {
-        all.extend((0..=5).map(|number| F::SetRegime(stood, number)));
+        all.insert(F::SetRegime(stood, 0));
+        all.extend(SET_REGIME.iter().map(|&row| F::SetRegime(stood, row)));
     }
     all.extend(
         [
@@ -274,18 +276,20 @@ fn replies(all: &mut BTreeSet<Feature>) {
         ]
         .map(F::Switch),
     );
-    all.extend([0, 1, 8, 9].map(F::Store));
+    all.insert(F::Store(0));
+    all.extend(STORE.iter().copied().map(F::Store));
     all.extend([Target::HeldLeaf, Target::SharedLeaf, Target::HeldTable].map(F::Into));
     all.extend([Target::LastOfPool, Target::Elsewhere].map(F::Into));
     all.extend([Effect::SetsAf, Effect::ClearsAf, Effect::MakesInvalid].map(F::Effect));
     all.extend([Effect::SetsAp2, Effect::ClearsAp2].map(F::Effect));
     all.extend([Off::Misaligned, Off::JustBefore, Off::JustBehind].map(F::Off));
     all.extend([Off::UpperBits, Off::Elsewhere].map(F::Off));
+    all.extend(ACCESS.iter().copied().map(F::Refused));
     // Without a regime nothing is held.
     all.extend([F::DropAll(false, false), F::DropAll(true, false)]);
     all.insert(F::DropAll(true, true));
-    all.extend([1, 6, 7, 9].map(F::Refused));
-    all.extend([1, 6, 7].map(F::RefusedHeld));
+    let with_regime = ACCESS.iter().copied().filter(|&row| row != 9);
+    all.extend(with_regime.map(F::RefusedHeld));
 }
 
 const FAULTS: [FaultKind; 6] = [

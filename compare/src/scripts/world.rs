@@ -6,9 +6,9 @@ use crate::cases::scene::{
 };
 use crate::random::Random;
 use crate::reference::{
-    first_level, lowest_index_bit, refusal_of_regime, Regime, ADDRESS_FIELD, AF, AP1, AP2, DBM,
-    GRANULE, MEMORY_LIMIT,
+    first_level, lowest_index_bit, Regime, ADDRESS_FIELD, AF, AP1, AP2, DBM, GRANULE, MEMORY_LIMIT,
 };
+use crate::refusals;
 use crate::session::PLACES;
 
 /// Entries in a table below the first one.
@@ -212,14 +212,14 @@ fn finish(random: &mut Random, scene: Scene, mut pages: Vec<u64>) -> World {
     let mut regimes = vec![home];
     for _ in 0..2 {
         let other = vary(random, &home);
-        if refusal_of_regime(length, &other).is_none() {
+        if refusals::of_set_regime(length, &other).is_none() {
             regimes.push(other);
         }
     }
     let mut far = home;
     far.pool.length += GRANULE as usize;
-    let needs_more = refusal_of_regime(length, &far) == Some(1);
-    let fits_all = refusal_of_regime(scene.memory.len(), &far).is_none();
+    let needs_more = refusals::of_set_regime(length, &far) == Some(1);
+    let fits_all = refusals::of_set_regime(scene.memory.len(), &far).is_none();
 
     // The same lower bits above another range, or above none.
     for _ in 0..2 {

@@ -36,7 +36,7 @@ struct List {
 }
 
 impl List {
-    /// The regime of 01 is set and page 0x403 was read.
+    /// The regime of the worked cases is set and page 0x403 was read.
     fn new() -> Self {
         let (memory, regime) = start();
         let mut list = List {

@@ -1,10 +1,11 @@
-//! Short scripts on the session of the paper, worked by hand from the
-//! numbers of 01. Page 0x403 has place 3, its leaf is at 0x40003018.
+//! Short scripts on the session, worked by hand from the numbers of the worked
+//! cases (RULES 12). Page 0x403 has place 3, its leaf is at 0x40003018.
 
 use super::{access, start, LEAF, LEAF_OFFSET};
 use crate::reference::{
     read_descriptor, write_descriptor, Access, Answer, Kind, Regime, Success, AP1, AP2,
 };
+use crate::refusals::SET_REGIME;
 use crate::session::{page_of, place_of, Held, Session};
 
 /// The leaf with AF 1, as a read leaves it.
@@ -19,7 +20,7 @@ struct Script {
 }
 
 impl Script {
-    /// A session with the regime of 01 set.
+    /// A session with the regime of the worked cases set.
     fn new() -> Self {
         Script::with(|_| {})
     }
@@ -357,15 +358,20 @@ fn what_empties_the_places() {
     };
     assert_eq!(script.held(), Some(wanted));
 
-    // Nothing that is refused, each by a number of its own.
-    let mut bad = [script.regime; 5];
-    bad[0].pool.length = 69_632;
-    bad[1].pool.address = 1 << 48;
-    bad[2].output_code = 6;
-    bad[3].ranges[1].root = 8;
-    bad[4].attributes[7] = 0x0F;
-    for (number, regime) in (1..).zip(&bad) {
-        assert_eq!(script.session.set_regime(65_536, regime), Some(number));
+    // Nothing that is refused, by whichever row.
+    type Change = fn(&mut Regime);
+    let changes: [(u8, Change); 5] = [
+        (1, |regime| regime.pool.length = 69_632),
+        (2, |regime| regime.pool.address = 1 << 48),
+        (3, |regime| regime.output_code = 6),
+        (4, |regime| regime.ranges[1].root = 8),
+        (5, |regime| regime.attributes[7] = 0x0F),
+    ];
+    assert_eq!(changes.map(|(row, _)| row), SET_REGIME);
+    for (row, change) in changes {
+        let mut bad = script.regime;
+        change(&mut bad);
+        assert_eq!(script.session.set_regime(65_536, &bad), Some(row));
         assert_eq!(script.session, held);
     }
 

@@ -1,6 +1,8 @@
 //! The host's side: the lent memory with two table pools, and the guest's RAM.
 
-use vmsa::{PhysAddr, Pool, Range, Refusal, Regime, Session, VirtAddr, POOL_LIMIT};
+use std::error::Error;
+
+use vmsa::{PhysAddr, Pool, Range, Regime, Session, VirtAddr, POOL_LIMIT};
 
 /// The guest's pool.
 pub const GUEST: Pool = Pool::new(0, POOL_LIMIT, PhysAddr(0x4000_0000));
@@ -71,7 +73,7 @@ pub fn regime() -> Regime {
 
 impl Host {
     /// Every mapped page writable-clean, but for the one that is read-only.
-    pub fn new() -> Result<Self, Refusal> {
+    pub fn new() -> Result<Self, Box<dyn Error>> {
         let mut host = Self {
             tables: vec![0; GUEST.length + NEIGHBOUR.length],
             ram: (0..PAGES << 12).map(|i| (i % 251) as u8).collect(),
@@ -98,6 +100,8 @@ impl Host {
         host.put(NEIGHBOUR.start + 0x2000, 0x4001_1003);
         host.put(NEIGHBOUR.start + 0x3000, 0x4001_2003);
 
+        // Where a number above is wrong, the check says which.
+        regime().check(host.tables.len())?;
         host.session.set_regime(&host.tables, &regime())?;
         Ok(host)
     }

@@ -1,4 +1,5 @@
-//! Tables for the tests: four of them, one leaf, in a pool of 65,536 bytes.
+//! For the tests: four tables with one leaf in a pool of 65,536 bytes, as the
+//! worked cases have them (`docs/RULES.md`, 12), and random numbers.
 
 #![allow(dead_code)]
 
@@ -49,4 +50,24 @@ pub fn read() -> Access {
 
 pub fn write() -> Access {
     Access::write(ADDRESS, 4).el0()
+}
+
+/// xorshift64.
+pub struct Random(pub u64);
+
+impl Random {
+    pub fn next(&mut self) -> u64 {
+        self.0 ^= self.0 << 13;
+        self.0 ^= self.0 >> 7;
+        self.0 ^= self.0 << 17;
+        self.0
+    }
+
+    pub fn below(&mut self, limit: u64) -> u64 {
+        (self.next() >> 16) % limit
+    }
+
+    pub fn pick<T: Copy>(&mut self, from: &[T]) -> T {
+        from[self.below(from.len() as u64) as usize]
+    }
 }

@@ -1,0 +1,142 @@
+//! The checks that find a [`Problem`].
+//!
+//! They stand beside the proved ones and are not proved. Each function has one
+//! refusal, its causes in the order of `docs/RULES.md`, 5.1.
+
+use crate::{
+    Access, AccessKind, PhysAddr, Pool, Problem, Regime, VirtAddr, MEMORY_LIMIT, POOL_LIMIT,
+};
+
+/// Bytes of a page and of a table; the pool's start, length and address are
+/// multiples of it.
+pub(crate) const PAGE: u64 = 4096;
+
+/// Physical addresses lie below this.
+const PHYSICAL_LIMIT: u64 = 1 << 48;
+
+type Checked = Result<(), Problem>;
+
+/// What a set regime checks, in its order.
+pub(crate) fn of_regime(regime: &Regime, memory: usize) -> Checked {
+    memory_and_pool(&regime.pool, memory)?;
+    pool_address(&regime.pool)?;
+    sizes(0, regime.range0.tsz)?;
+    sizes(1, regime.range1.tsz)?;
+    root(0, regime.range0.root)?;
+    root(1, regime.range1.root)?;
+    let mut bytes = regime.attributes.into_iter().enumerate();
+    bytes.try_for_each(|(index, byte)| attribute(index, byte))
+}
+
+/// What an access is checked for by itself, in its order.
+pub(crate) fn of_access(access: &Access) -> Checked {
+    access_size(access)?;
+    page_crossing(access)
+}
+
+/// Refusal 1.
+fn memory_and_pool(pool: &Pool, memory: usize) -> Checked {
+    let Pool { start, length, .. } = *pool;
+    if memory > MEMORY_LIMIT {
+        return Err(Problem::MemoryTooLong { length: memory });
+    }
+    if unaligned(start as u64) {
+        return Err(Problem::PoolStartUnaligned { start });
+    }
+    if unaligned(length as u64) {
+        return Err(Problem::PoolLengthUnaligned { length });
+    }
+    if length == 0 {
+        return Err(Problem::PoolEmpty);
+    }
+    if length > POOL_LIMIT {
+        return Err(Problem::PoolTooLong { length });
+    }
+    if end(start as u64, length) > memory as u128 {
+        return Err(Problem::PoolPastMemory {
+            start,
+            length,
+            memory,
+        });
+    }
+    Ok(())
+}
+
+/// Refusal 2.
+fn pool_address(pool: &Pool) -> Checked {
+    let (address, length) = (pool.address, pool.length);
+    if unaligned(address.0) {
+        return Err(Problem::PoolAddressUnaligned { address });
+    }
+    if end(address.0, length) > PHYSICAL_LIMIT.into() {
+        return Err(Problem::PoolAddressTooHigh { address, length });
+    }
+    Ok(())
+}
+
+/// Refusal 3, but for the output size code: no [`crate::OutputSize`] has one
+/// that is refused.
+fn sizes(range: u8, tsz: u8) -> Checked {
+    match tsz {
+        16..=39 => Ok(()),
+        _ => Err(Problem::TszOutOfBounds { range, tsz }),
+    }
+}
+
+/// Refusal 4.
+fn root(range: u8, root: PhysAddr) -> Checked {
+    if unaligned(root.0) {
+        return Err(Problem::RootUnaligned { range, root });
+    }
+    if root.0 >= PHYSICAL_LIMIT {
+        return Err(Problem::RootTooHigh { range, root });
+    }
+    Ok(())
+}
+
+/// Refusal 5.
+fn attribute(index: usize, byte: u8) -> Checked {
+    let device = matches!(byte, 0x00 | 0x04 | 0x08 | 0x0c);
+    let normal = byte & 0x0f != 0 && byte & 0xf0 != 0;
+    if device || normal {
+        Ok(())
+    } else {
+        Err(Problem::AttributeByte { index, byte })
+    }
+}
+
+/// Refusal 6.
+fn access_size(access: &Access) -> Checked {
+    let (address, size) = (access.address, access.size);
+    if !matches!(size, 1 | 2 | 4 | 8 | 16) {
+        return Err(Problem::Size { size });
+    }
+    match access.kind {
+        AccessKind::Fetch if size != 4 => Err(Problem::FetchSize { size }),
+        AccessKind::Fetch if address.0 % 4 != 0 => Err(Problem::FetchUnaligned { address }),
+        AccessKind::ProbeRead | AccessKind::ProbeWrite if size != 1 => {
+            Err(Problem::ProbeSize { size })
+        }
+        _ => Ok(()),
+    }
+}
+
+/// Refusal 7. Where the size is 0, the last byte is the first.
+fn page_crossing(access: &Access) -> Checked {
+    let first = access.address;
+    let last = VirtAddr(first.0.wrapping_add(access.size.saturating_sub(1)));
+    if first.0 / PAGE != last.0 / PAGE {
+        return Err(Problem::PageCrossing { first, last });
+    }
+    Ok(())
+}
+
+/// Whether a number is no multiple of 4,096.
+fn unaligned(number: u64) -> bool {
+    number % PAGE != 0
+}
+
+/// Where so many bytes end; the sum does not wrap.
+pub(crate) fn end(start: u64, length: usize) -> u128 {
+    u128::from(start) + length as u128
+}

@@ -1,0 +1,224 @@
+//! Refusals in words: what a regime or an access is refused for.
+
+use std::error::Error;
+use std::fmt;
+
+use crate::check::{end, PAGE};
+use crate::{PhysAddr, Refusal, VirtAddr, MEMORY_LIMIT, POOL_LIMIT};
+
+/// One cause of a refusal, with the value at fault.
+///
+/// [`Regime::check`](crate::Regime::check) and
+/// [`Access::check`](crate::Access::check) find it, and its words name the
+/// value and the limit. They stand beside the library, which decides: they are
+/// not proved, but tested to find a problem exactly where the library refuses,
+/// with the same number. Of several causes they name the first, in the order
+/// of `docs/RULES.md`, 5.1; of the two ranges, range 0 comes first.
+///
+/// ```
+/// use vmsa::{PhysAddr, Pool, Problem, Refusal, Regime};
+///
+/// let regime = Regime::new().pool(Pool::new(0, 69_632, PhysAddr(0x4000_0000)));
+/// let problem = regime.check(69_632).unwrap_err();
+/// assert_eq!(problem, Problem::PoolTooLong { length: 69_632 });
+/// assert_eq!(problem.refusal(), Refusal::MemoryPool);
+/// assert_eq!(
+///     problem.to_string(),
+///     "refused with 1: the pool's length, 69632, is above its limit, 65536",
+/// );
+/// ```
+#[derive(Clone, Copy, Debug, PartialEq, Eq, Hash)]
+#[non_exhaustive]
+pub enum Problem {
+    /// The memory has more than [`MEMORY_LIMIT`] bytes.
+    MemoryTooLong {
+        /// Bytes of the memory.
+        length: usize,
+    },
+    /// The pool's start is not a multiple of 4,096.
+    PoolStartUnaligned {
+        /// The pool's start.
+        start: usize,
+    },
+    /// The pool's length is not a multiple of 4,096.
+    PoolLengthUnaligned {
+        /// Bytes of the pool.
+        length: usize,
+    },
+    /// The pool's length is 0.
+    PoolEmpty,
+    /// The pool has more than [`POOL_LIMIT`] bytes.
+    PoolTooLong {
+        /// Bytes of the pool.
+        length: usize,
+    },
+    /// The pool passes the end of the memory.
+    PoolPastMemory {
+        /// The pool's start.
+        start: usize,
+        /// Bytes of the pool.
+        length: usize,
+        /// Bytes of the memory.
+        memory: usize,
+    },
+    /// The pool's address is not a multiple of 4,096.
+    PoolAddressUnaligned {
+        /// The pool's address.
+        address: PhysAddr,
+    },
+    /// The pool's addresses end above 2^48.
+    PoolAddressTooHigh {
+        /// The pool's address.
+        address: PhysAddr,
+        /// Bytes of the pool.
+        length: usize,
+    },
+    /// T of a range is below 16 or above 39.
+    TszOutOfBounds {
+        /// The range, 0 or 1.
+        range: u8,
+        /// Its T.
+        tsz: u8,
+    },
+    /// The root of a range is not a multiple of 4,096.
+    RootUnaligned {
+        /// The range, 0 or 1.
+        range: u8,
+        /// Its root.
+        root: PhysAddr,
+    },
+    /// The root of a range is not below 2^48.
+    RootTooHigh {
+        /// The range, 0 or 1.
+        range: u8,
+        /// Its root.
+        root: PhysAddr,
+    },
+    /// An attribute byte is neither Device nor Normal memory.
+    AttributeByte {
+        /// Which of the eight, from 0.
+        index: usize,
+        /// The byte.
+        byte: u8,
+    },
+    /// The size is not 1, 2, 4, 8 or 16.
+    Size {
+        /// The size.
+        size: u64,
+    },
+    /// The size of a fetch is not 4.
+    FetchSize {
+        /// The size.
+        size: u64,
+    },
+    /// The address of a fetch is not a multiple of 4.
+    FetchUnaligned {
+        /// The address.
+        address: VirtAddr,
+    },
+    /// The size of a probe is not 1.
+    ProbeSize {
+        /// The size.
+        size: u64,
+    },
+    /// First and last byte lie in different pages.
+    PageCrossing {
+        /// The first byte.
+        first: VirtAddr,
+        /// The last byte, modulo 2^64.
+        last: VirtAddr,
+    },
+}
+
+impl Problem {
+    /// The refusal that it is a cause of.
+    pub const fn refusal(self) -> Refusal {
+        match self {
+            Self::MemoryTooLong { .. }
+            | Self::PoolStartUnaligned { .. }
+            | Self::PoolLengthUnaligned { .. }
+            | Self::PoolEmpty
+            | Self::PoolTooLong { .. }
+            | Self::PoolPastMemory { .. } => Refusal::MemoryPool,
+            Self::PoolAddressUnaligned { .. } | Self::PoolAddressTooHigh { .. } => {
+                Refusal::PoolAddress
+            }
+            Self::TszOutOfBounds { .. } => Refusal::Sizes,
+            Self::RootUnaligned { .. } | Self::RootTooHigh { .. } => Refusal::Root,
+            Self::AttributeByte { .. } => Refusal::Attributes,
+            Self::Size { .. }
+            | Self::FetchSize { .. }
+            | Self::FetchUnaligned { .. }
+            | Self::ProbeSize { .. } => Refusal::AccessSize,
+            Self::PageCrossing { .. } => Refusal::PageCrossing,
+        }
+    }
+}
+
+impl fmt::Display for Problem {
+    fn fmt(&self, f: &mut fmt::Formatter<'_>) -> fmt::Result {
+        write!(f, "refused with {}: ", self.refusal().number())?;
+        match *self {
+            Self::MemoryTooLong { length } => write!(
+                f,
+                "the memory's length, {length}, is above its limit, {MEMORY_LIMIT}"
+            ),
+            Self::PoolStartUnaligned { start } => {
+                write!(f, "the pool's start, {start}, is no multiple of {PAGE}")
+            }
+            Self::PoolLengthUnaligned { length } => {
+                write!(f, "the pool's length, {length}, is no multiple of {PAGE}")
+            }
+            Self::PoolEmpty => f.write_str("the pool's length is 0"),
+            Self::PoolTooLong { length } => write!(
+                f,
+                "the pool's length, {length}, is above its limit, {POOL_LIMIT}"
+            ),
+            Self::PoolPastMemory {
+                start,
+                length,
+                memory,
+            } => {
+                let end = end(start as u64, length);
+                write!(
+                    f,
+                    "the pool's end, {end}, is past the end of the memory, {memory}"
+                )
+            }
+            Self::PoolAddressUnaligned { address } => {
+                write!(f, "the pool's address, {address}, is no multiple of {PAGE}")
+            }
+            Self::PoolAddressTooHigh { address, length } => {
+                let end = end(address.0, length);
+                write!(f, "the pool's end address, {end:#x}, is above 2^48")
+            }
+            Self::TszOutOfBounds { range, tsz } => {
+                write!(f, "T of range {range}, {tsz}, is outside 16 to 39")
+            }
+            Self::RootUnaligned { range, root } => write!(
+                f,
+                "the root of range {range}, {root}, is no multiple of {PAGE}"
+            ),
+            Self::RootTooHigh { range, root } => {
+                write!(f, "the root of range {range}, {root}, is not below 2^48")
+            }
+            Self::AttributeByte { index, byte } => write!(
+                f,
+                "attribute byte {index}, {byte:#04x}, is neither Device (0x00, 0x04, 0x08, 0x0c) \
+                 nor Normal (both halves nonzero)"
+            ),
+            Self::Size { size } => write!(f, "the size, {size}, is not 1, 2, 4, 8 or 16"),
+            Self::FetchSize { size } => write!(f, "the size of a fetch, {size}, is not 4"),
+            Self::FetchUnaligned { address } => {
+                write!(f, "the address of a fetch, {address}, is no multiple of 4")
+            }
+            Self::ProbeSize { size } => write!(f, "the size of a probe, {size}, is not 1"),
+            Self::PageCrossing { first, last } => write!(
+                f,
+                "the first byte, {first}, and the last, {last}, lie in different pages"
+            ),
+        }
+    }
+}
+
+impl Error for Problem {}

@@ -1,0 +1,116 @@
+//! Why a call is refused.
+
+use std::error::Error;
+use std::fmt;
+
+/// Makes an enum of refusals, and all that goes by their numbers, from one
+/// table: each with its number and its words.
+macro_rules! refusals {
+    (
+        $(#[$about:meta])*
+        enum $refusal:ident;
+        $($(#[$doc:meta])* $name:ident = $number:literal: $words:literal;)+
+    ) => {
+        $(#[$about])*
+        pub enum $refusal {
+            $($(#[$doc])* $name,)+
+        }
+
+        impl $refusal {
+            /// Every refusal, in the order of the numbers.
+            pub const ALL: [Self; [$($number),+].len()] = [$(Self::$name),+];
+
+            /// The number.
+            pub const fn number(self) -> u8 {
+                match self {
+                    $(Self::$name => $number,)+
+                }
+            }
+
+            pub(crate) const fn from_number(number: u8) -> Option<Self> {
+                match number {
+                    $($number => Some(Self::$name),)+
+                    _ => None,
+                }
+            }
+
+            const fn words(self) -> &'static str {
+                match self {
+                    $(Self::$name => $words,)+
+                }
+            }
+        }
+    };
+}
+
+refusals! {
+    /// Why a call is refused. It then changes neither memory nor session.
+    ///
+    /// A call is refused with the first that applies, in its own order:
+    ///
+    /// | Call | Checks, in this order |
+    /// |---|---|
+    /// | [`walk`](crate::walk()) | 1, 2, 3, 4, 5, 6, 7 |
+    /// | [`Session::set_regime`](crate::Session::set_regime) | 1, 2, 3, 4, 5 |
+    /// | [`Session::access`](crate::Session::access) | 9, 1, 6, 7 |
+    /// | [`Session::store`](crate::Session::store) | 9, 1, 8 |
+    /// | [`Session::invalidate_all`](crate::Session::invalidate_all) | none |
+    ///
+    /// Most numbers stand for several causes: [`Regime::check`] and
+    /// [`Access::check`] tell them apart. `docs/RULES.md`, section 5, has all
+    /// of this.
+    ///
+    /// [`Regime::check`]: crate::Regime::check
+    /// [`Access::check`]: crate::Access::check
+    ///
+    /// ```
+    /// use vmsa::Refusal;
+    ///
+    /// assert_eq!(Refusal::PageCrossing.number(), 7);
+    /// assert_eq!(
+    ///     Refusal::PageCrossing.to_string(),
+    ///     "refused with 7: the access crosses a page boundary",
+    /// );
+    /// ```
+    #[derive(Clone, Copy, Debug, PartialEq, Eq, Hash)]
+    enum Refusal;
+
+    /// 1: memory above its limit; pool start or length not a multiple of
+    /// 4,096; pool empty, above its limit, or past the end of the memory.
+    MemoryPool = 1: "the memory or the pool's part of it is out of bounds";
+
+    /// 2: pool address not a multiple of 4,096, or the pool ends above 2^48.
+    PoolAddress = 2: "the pool's physical address is out of bounds";
+
+    /// 3: T of a range outside 16 to 39.
+    Sizes = 3: "a size field of the regime is out of bounds";
+
+    /// 4: a root that is not a multiple of 4,096, or not below 2^48.
+    Root = 4: "a root is unaligned or not below 2^48";
+
+    /// 5: an attribute byte is neither 0x00, 0x04, 0x08, 0x0C (Device) nor has
+    /// both halves nonzero (Normal).
+    Attributes = 5: "an attribute byte is neither Device nor Normal memory";
+
+    /// 6: size not 1, 2, 4, 8, 16; a fetch whose size is not 4 or address not
+    /// a multiple of 4; a probe whose size is not 1.
+    AccessSize = 6: "the size or alignment does not fit the kind of access";
+
+    /// 7: first and last byte lie in different pages.
+    PageCrossing = 7: "the access crosses a page boundary";
+
+    /// 8: a store's address is not a multiple of 8, or its bytes are not all
+    /// in the pool.
+    StoreAddress = 8: "the descriptor is unaligned or not in the pool";
+
+    /// 9: the session has no regime yet.
+    NoRegime = 9: "the session has no regime";
+}
+
+impl fmt::Display for Refusal {
+    fn fmt(&self, f: &mut fmt::Formatter<'_>) -> fmt::Result {
+        write!(f, "refused with {}: {}", self.number(), self.words())
+    }
+}
+
+impl Error for Refusal {}

@@ -1,0 +1,514 @@
+//! `Regime::check` and `Access::check` against the library: they find a
+//! problem exactly where it refuses, with the same number. At every limit, and
+//! over many random regimes and accesses; and the words.
+
+mod tables;
+
+use std::collections::HashSet;
+use std::mem::discriminant;
+
+use tables::{read, regime, Random, POOL};
+use vmsa::{
+    walk, Access, AccessKind, PhysAddr, Pool, Problem, Refusal, Regime, Session, Stop, VirtAddr,
+    MEMORY_LIMIT, POOL_LIMIT,
+};
+
+const TOP: u64 = 1 << 48;
+
+/// What is checked. As it starts there is no problem.
+#[derive(Clone, Copy, Debug)]
+struct Question {
+    memory: usize,
+    regime: Regime,
+    access: Access,
+}
+
+type Change = fn(&mut Question);
+
+fn question() -> Question {
+    Question {
+        memory: POOL_LIMIT,
+        regime: regime().pool(Pool::new(0, POOL_LIMIT, PhysAddr(POOL))),
+        access: read(),
+    }
+}
+
+fn changed(changes: &[Change]) -> Question {
+    let mut question = question();
+    for change in changes {
+        change(&mut question);
+    }
+    question
+}
+
+impl Question {
+    /// A walk's first problem: the regime comes before the access.
+    fn problem(&self) -> Option<Problem> {
+        let regime = self.regime.check(self.memory);
+        regime.and_then(|()| self.access.check()).err()
+    }
+}
+
+/// The library, over a memory of zeros: no descriptor is valid, and no call
+/// changes it.
+struct Library {
+    memory: Vec<u8>,
+    session: Session,
+}
+
+impl Library {
+    fn new() -> Self {
+        let memory = vec![0; MEMORY_LIMIT + 4096];
+        let mut session = Session::new();
+        let Question {
+            memory: lent,
+            regime,
+            ..
+        } = question();
+        session.set_regime(&memory[..lent], &regime).unwrap();
+        Self { memory, session }
+    }
+
+    /// Holds both checks against the three calls that make them.
+    fn agrees(&mut self, question: &Question) {
+        let lent = &mut self.memory[..question.memory];
+        let refusal = |checked: Result<(), Problem>| checked.map_err(Problem::refusal);
+        let given = Session::new().set_regime(lent, &question.regime);
+        let checked = question.regime.check(question.memory);
+        assert_eq!(refusal(checked), given, "{question:?}");
+
+        let given = walk(lent, &question.regime, &question.access);
+        let found = question.problem().map(Problem::refusal);
+        assert_eq!(found, given.err().and_then(Stop::refusal), "{question:?}");
+
+        let lent = &mut self.memory[..POOL_LIMIT];
+        let given = self.session.access(lent, &question.access);
+        let found = question.access.check().err().map(Problem::refusal);
+        assert_eq!(found, given.err().and_then(Stop::refusal), "{question:?}");
+    }
+}
+
+/// Each cause, in the order in which they are looked for: a change that makes
+/// it, whatever else was changed, and the words behind the number.
+const CAUSES: [(Change, Refusal, &str); 20] = [
+    (
+        |q| q.memory = MEMORY_LIMIT + 1,
+        Refusal::MemoryPool,
+        "the memory's length, 1048577, is above its limit, 1048576",
+    ),
+    (
+        |q| q.regime.pool.start = 0x800,
+        Refusal::MemoryPool,
+        "the pool's start, 2048, is no multiple of 4096",
+    ),
+    (
+        |q| q.regime.pool.length = 0x1008,
+        Refusal::MemoryPool,
+        "the pool's length, 4104, is no multiple of 4096",
+    ),
+    (
+        |q| q.regime.pool.length = 0,
+        Refusal::MemoryPool,
+        "the pool's length is 0",
+    ),
+    (
+        |q| q.regime.pool.length = POOL_LIMIT + 0x1000,
+        Refusal::MemoryPool,
+        "the pool's length, 69632, is above its limit, 65536",
+    ),
+    (
+        |q| (q.memory, q.regime.pool.start) = (POOL_LIMIT, 0x1000),
+        Refusal::MemoryPool,
+        "the pool's end, 69632, is past the end of the memory, 65536",
+    ),
+    (
+        |q| q.regime.pool.address = PhysAddr(POOL + 0x800),
+        Refusal::PoolAddress,
+        "the pool's address, 0x40000800, is no multiple of 4096",
+    ),
+    (
+        |q| q.regime.pool.address = PhysAddr(TOP - 0x1000),
+        Refusal::PoolAddress,
+        "the pool's end address, 0x100000000f000, is above 2^48",
+    ),
+    (
+        |q| q.regime.range0.tsz = 15,
+        Refusal::Sizes,
+        "T of range 0, 15, is outside 16 to 39",
+    ),
+    (
+        |q| q.regime.range1.tsz = 40,
+        Refusal::Sizes,
+        "T of range 1, 40, is outside 16 to 39",
+    ),
+    (
+        |q| q.regime.range0.root = PhysAddr(TOP + 8),
+        Refusal::Root,
+        "the root of range 0, 0x1000000000008, is no multiple of 4096",
+    ),
+    (
+        |q| q.regime.range0.root = PhysAddr(TOP),
+        Refusal::Root,
+        "the root of range 0, 0x1000000000000, is not below 2^48",
+    ),
+    (
+        |q| q.regime.range1.root = PhysAddr(TOP + 8),
+        Refusal::Root,
+        "the root of range 1, 0x1000000000008, is no multiple of 4096",
+    ),
+    (
+        |q| q.regime.range1.root = PhysAddr(TOP),
+        Refusal::Root,
+        "the root of range 1, 0x1000000000000, is not below 2^48",
+    ),
+    (
+        |q| q.regime.attributes = [0xff, 0x44, 0x04, 0xf0, 0x0f, 0xff, 0xff, 0xff],
+        Refusal::Attributes,
+        "attribute byte 3, 0xf0, is neither Device (0x00, 0x04, 0x08, 0x0c) \
+         nor Normal (both halves nonzero)",
+    ),
+    (
+        |q| q.access.size = 3,
+        Refusal::AccessSize,
+        "the size, 3, is not 1, 2, 4, 8 or 16",
+    ),
+    (
+        |q| (q.access.kind, q.access.size) = (AccessKind::Fetch, 8),
+        Refusal::AccessSize,
+        "the size of a fetch, 8, is not 4",
+    ),
+    (
+        |q| q.access = Access::fetch(VirtAddr(0x40_3abe)),
+        Refusal::AccessSize,
+        "the address of a fetch, 0x403abe, is no multiple of 4",
+    ),
+    (
+        |q| (q.access.kind, q.access.size) = (AccessKind::ProbeWrite, 4),
+        Refusal::AccessSize,
+        "the size of a probe, 4, is not 1",
+    ),
+    (
+        |q| q.access = Access::read(VirtAddr(0x40_3ffd), 4),
+        Refusal::PageCrossing,
+        "the first byte, 0x403ffd, and the last, 0x404000, lie in different pages",
+    ),
+];
+
+#[test]
+fn words() {
+    assert_eq!(question().problem(), None);
+    for (change, refusal, words) in CAUSES {
+        let problem = changed(&[change]).problem().unwrap();
+        assert_eq!(problem.refusal(), refusal);
+        let number = refusal.number();
+        assert_eq!(
+            problem.to_string(),
+            format!("refused with {number}: {words}")
+        );
+    }
+    let error: Box<dyn std::error::Error> = Box::new(Problem::PoolEmpty);
+    assert_eq!(error.to_string(), "refused with 1: the pool's length is 0");
+}
+
+#[test]
+fn values_to_match_on() {
+    let pool = Pool::new(0x1000, POOL_LIMIT, PhysAddr(TOP - 0x1000));
+    let regime = regime().pool(pool);
+    assert_eq!(
+        regime.check(POOL_LIMIT),
+        Err(Problem::PoolPastMemory {
+            start: 0x1000,
+            length: POOL_LIMIT,
+            memory: POOL_LIMIT,
+        })
+    );
+    assert_eq!(
+        regime.check(MEMORY_LIMIT),
+        Err(Problem::PoolAddressTooHigh {
+            address: PhysAddr(TOP - 0x1000),
+            length: POOL_LIMIT,
+        })
+    );
+    assert_eq!(
+        Access::read(VirtAddr(u64::MAX), 2).check(),
+        Err(Problem::PageCrossing {
+            first: VirtAddr(u64::MAX),
+            last: VirtAddr(0),
+        })
+    );
+}
+
+#[test]
+fn the_first_of_two() {
+    let mut library = Library::new();
+    for (place, (change, _, words)) in CAUSES.into_iter().enumerate() {
+        library.agrees(&changed(&[change]));
+        for (later, ..) in &CAUSES[place + 1..] {
+            let question = changed(&[*later, change]);
+            let problem = question.problem().unwrap();
+            assert!(
+                problem.to_string().ends_with(words),
+                "{problem}, not {words}"
+            );
+            library.agrees(&question);
+        }
+    }
+}
+
+/// Changes up to a limit, which make no problem, and one step past it.
+const LIMITS: [(Change, bool); 40] = [
+    (|q| q.memory = MEMORY_LIMIT, true),
+    (|q| q.memory = MEMORY_LIMIT + 1, false),
+    (|q| q.memory = POOL_LIMIT, true),
+    (|q| q.memory = POOL_LIMIT - 1, false),
+    (|q| q.memory = 0, false),
+    (|q| q.regime.pool.length = 0x1000, true),
+    (|q| q.regime.pool.length = 0xfff, false),
+    (|q| q.regime.pool.length = 0, false),
+    (|q| q.regime.pool.length = usize::MAX - 0xfff, false),
+    (
+        |q| (q.memory, q.regime.pool.length) = (0x1000, 0x1000),
+        true,
+    ),
+    (
+        |q| (q.memory, q.regime.pool.length) = (MEMORY_LIMIT, POOL_LIMIT),
+        true,
+    ),
+    (
+        |q| (q.memory, q.regime.pool.length) = (MEMORY_LIMIT, POOL_LIMIT + 1),
+        false,
+    ),
+    (
+        |q| (q.memory, q.regime.pool.length) = (MEMORY_LIMIT, POOL_LIMIT + 0x1000),
+        false,
+    ),
+    (
+        |q| (q.memory, q.regime.pool.start) = (MEMORY_LIMIT, MEMORY_LIMIT - POOL_LIMIT),
+        true,
+    ),
+    (
+        |q| (q.memory, q.regime.pool.start) = (MEMORY_LIMIT - 1, MEMORY_LIMIT - POOL_LIMIT),
+        false,
+    ),
+    (
+        |q| (q.memory, q.regime.pool.start) = (MEMORY_LIMIT, 1),
+        false,
+    ),
+    (|q| q.regime.pool.start = usize::MAX - 0xfff, false),
+    (|q| q.regime.pool.start = usize::MAX - POOL_LIMIT + 1, false),
+    (|q| q.regime.pool.address = PhysAddr(0), true),
+    (|q| q.regime.pool.address = PhysAddr(1), false),
+    (
+        |q| q.regime.pool.address = PhysAddr(TOP - POOL_LIMIT as u64),
+        true,
+    ),
+    (
+        |q| q.regime.pool.address = PhysAddr(TOP - POOL_LIMIT as u64 + 0x1000),
+        false,
+    ),
+    (
+        |q| q.regime.pool.address = PhysAddr(0_u64.wrapping_sub(POOL_LIMIT as u64)),
+        false,
+    ),
+    (
+        |q| q.regime.pool.address = PhysAddr(u64::MAX - 0xfff),
+        false,
+    ),
+    (|q| q.regime.range0.tsz = 16, true),
+    (|q| q.regime.range0.tsz = 39, true),
+    (|q| q.regime.range0.tsz = 255, false),
+    (|q| q.regime.range1.tsz = 16, true),
+    (|q| q.regime.range1.tsz = 39, true),
+    (|q| q.regime.range1.tsz = 0, false),
+    (|q| q.regime.range0.root = PhysAddr(TOP - 0x1000), true),
+    (|q| q.regime.range0.root = PhysAddr(TOP - 1), false),
+    (|q| q.regime.range1.root = PhysAddr(TOP - 0x1000), true),
+    (|q| q.regime.range1.root = PhysAddr(u64::MAX - 0xfff), false),
+    (|q| q.access = Access::read(VirtAddr(u64::MAX), 1), true),
+    (|q| q.access = Access::read(VirtAddr(u64::MAX), 2), false),
+    (
+        |q| q.access = Access::read(VirtAddr(u64::MAX - 15), 16),
+        true,
+    ),
+    (|q| q.access = Access::read(VirtAddr(0x40_3ffc), 4), true),
+    (|q| q.access = Access::read(VirtAddr(0x40_3000), 0), false),
+    (|q| q.access.size = u64::MAX, false),
+];
+
+#[test]
+fn at_every_limit() {
+    let mut library = Library::new();
+    for (place, (change, well)) in LIMITS.into_iter().enumerate() {
+        let question = changed(&[change]);
+        let problem = question.problem();
+        assert_eq!(problem.is_none(), well, "{place}: {problem:?}");
+        library.agrees(&question);
+    }
+    for byte in 0..=255 {
+        for place in 0..8 {
+            let mut question = question();
+            question.regime.attributes[place] = byte;
+            library.agrees(&question);
+        }
+        let mut question = question();
+        question.regime.range0.tsz = byte;
+        library.agrees(&question);
+        question.regime.range1.tsz = byte;
+        library.agrees(&question);
+    }
+    for kind in AccessKind::ALL {
+        for size in 0..=33 {
+            for address in 0xfe0..0x1004 {
+                let mut question = question();
+                question.access = Access::new(kind, VirtAddr(address), size);
+                library.agrees(&question);
+            }
+        }
+    }
+}
+
+/// A number that is often at a limit.
+fn edge(random: &mut Random) -> u64 {
+    let limits = [
+        0,
+        0x1000,
+        POOL_LIMIT as u64,
+        MEMORY_LIMIT as u64,
+        POOL,
+        TOP,
+        1 << 63,
+    ];
+    let limit = random.pick(&limits);
+    match random.below(8) {
+        0 => random.next(),
+        1 => random.next() & !0xfff,
+        2 => random.below(MEMORY_LIMIT as u64) & !0xfff,
+        3 => limit.wrapping_sub(random.below(20)),
+        4 => limit.wrapping_add(random.below(20)),
+        5 => limit.wrapping_sub(POOL_LIMIT as u64),
+        6 => limit.wrapping_sub(0x1000),
+        _ => limit,
+    }
+}
+
+/// Changes one thing to a number at random.
+fn change(question: &mut Question, random: &mut Random) {
+    let number = edge(random);
+    let regime = &mut question.regime;
+    let tsz = random.pick(&[0, 15, 16, 25, 39, 40, number as u8]);
+    match random.below(14) {
+        0 => question.memory = number as usize % (MEMORY_LIMIT + 4096),
+        1 => regime.pool.start = number as usize,
+        2 => regime.pool.length = number as usize,
+        3 => regime.pool.address = PhysAddr(number),
+        4 => regime.range0.tsz = tsz,
+        5 => regime.range1.tsz = tsz,
+        6 => regime.range0.root = PhysAddr(number),
+        7 => regime.range1.root = PhysAddr(number),
+        8 => regime.attributes[random.below(8) as usize] = random.next() as u8,
+        9 => question.access.address = VirtAddr(number),
+        10 => question.access.size = random.pick(&[1, 2, 4, 8, 16, number]),
+        11 => question.access.kind = random.pick(&AccessKind::ALL),
+        // A pool that mostly fits, in a memory that may be shorter.
+        12 => {
+            let pages = random.below(20) as usize;
+            question.memory = MEMORY_LIMIT - random.below(3) as usize;
+            regime.pool.length = pages << 12;
+            regime.pool.start = MEMORY_LIMIT - (pages << 12);
+        }
+        _ => {
+            regime.range0.disabled = random.below(2) == 0;
+            regime.range1.disabled = random.below(2) == 0;
+        }
+    }
+}
+
+/// Whether a problem is one that the question has.
+fn has(question: &Question, problem: Problem) -> bool {
+    let Question {
+        memory,
+        regime,
+        access,
+    } = question;
+    let pool = regime.pool;
+    let ranges = [regime.range0, regime.range1];
+    let fetch = access.kind == AccessKind::Fetch;
+    let probe = matches!(access.kind, AccessKind::ProbeRead | AccessKind::ProbeWrite);
+    match problem {
+        Problem::MemoryTooLong { length } => length == *memory && length > MEMORY_LIMIT,
+        Problem::PoolStartUnaligned { start } => start == pool.start && start & 0xfff != 0,
+        Problem::PoolLengthUnaligned { length } => length == pool.length && length & 0xfff != 0,
+        Problem::PoolEmpty => pool.length == 0,
+        Problem::PoolTooLong { length } => length == pool.length && length > POOL_LIMIT,
+        Problem::PoolPastMemory {
+            start,
+            length,
+            memory: of,
+        } => {
+            (start, length, of) == (pool.start, pool.length, *memory)
+                && (start > of || length > of - start)
+        }
+        Problem::PoolAddressUnaligned { address } => {
+            address == pool.address && address.0 & 0xfff != 0
+        }
+        Problem::PoolAddressTooHigh { address, length } => {
+            (address, length) == (pool.address, pool.length)
+                && (address.0 > TOP || length as u64 > TOP - address.0)
+        }
+        Problem::TszOutOfBounds { range, tsz } => {
+            tsz == ranges[usize::from(range)].tsz && !(16..=39).contains(&tsz)
+        }
+        Problem::RootUnaligned { range, root } => {
+            root == ranges[usize::from(range)].root && root.0 & 0xfff != 0
+        }
+        Problem::RootTooHigh { range, root } => {
+            root == ranges[usize::from(range)].root && root.0 >> 48 != 0
+        }
+        Problem::AttributeByte { index, byte } => {
+            byte == regime.attributes[index] && (byte & 0xf == 0 || byte < 0x10) && byte & !0xc != 0
+        }
+        Problem::Size { size } => size == access.size && (size.count_ones() != 1 || size > 16),
+        Problem::FetchSize { size } => fetch && size == access.size && size != 4,
+        Problem::FetchUnaligned { address } => {
+            fetch && address == access.address && address.0 & 3 != 0
+        }
+        Problem::ProbeSize { size } => probe && size == access.size && size != 1,
+        Problem::PageCrossing { first, last } => {
+            first == access.address
+                && last.0.wrapping_sub(first.0) == access.size - 1
+                && first.0 & !0xfff != last.0 & !0xfff
+        }
+        _ => false,
+    }
+}
+
+#[test]
+fn over_random_questions() {
+    let mut random = Random(0x9e37_79b9_7f4a_7c15);
+    let mut library = Library::new();
+    let mut met = HashSet::new();
+    let mut accepted = 0;
+    for _ in 0..60_000 {
+        let mut question = question();
+        for _ in 0..=random.below(4) {
+            change(&mut question, &mut random);
+        }
+        library.agrees(&question);
+        let found = [
+            question.regime.check(question.memory).err(),
+            question.access.check().err(),
+        ];
+        for problem in found.into_iter().flatten() {
+            assert!(has(&question, problem), "{problem:?} of {question:?}");
+            met.insert(discriminant(&problem));
+        }
+        accepted += usize::from(found == [None, None]);
+    }
+    assert!(library.memory.iter().all(|&byte| byte == 0));
+
+    // The questions are worth something: each problem was met.
+    let causes = CAUSES.map(|(change, ..)| changed(&[change]).problem().unwrap());
+    let causes: HashSet<_> = causes.iter().map(discriminant).collect();
+    assert_eq!(met, causes);
+    assert!(accepted > 5_000, "{accepted} accepted");
+}

@@ -1,0 +1,195 @@
+//! The numbers of the refusals, and which of two a call gives.
+
+mod tables;
+
+use tables::{memory, read, regime, POOL};
+use vmsa::{Access, PhysAddr, Range, Refusal, Regime, Session, VirtAddr};
+
+/// What a call is made with; as it starts, none is refused.
+struct Question {
+    set: bool,
+    lent: usize,
+    regime: Regime,
+    access: Access,
+    store: PhysAddr,
+}
+
+type Change = fn(&mut Question);
+
+/// Each refusal with its number (`docs/RULES.md`, 5.1), and a change that makes
+/// it apply, whatever else was changed.
+const REFUSALS: [(Refusal, u8, Change); 9] = [
+    (Refusal::MemoryPool, 1, |question| question.lent = 0xffff),
+    (Refusal::PoolAddress, 2, |question| {
+        question.regime.pool.address = PhysAddr(POOL + 8);
+    }),
+    (Refusal::Sizes, 3, |question| {
+        question.regime.range1.tsz = 40
+    }),
+    (Refusal::Root, 4, |question| {
+        question.regime.range1.root = PhysAddr(1 << 48);
+    }),
+    (Refusal::Attributes, 5, |question| {
+        question.regime.attributes[7] = 0x0f;
+    }),
+    (Refusal::AccessSize, 6, |question| question.access.size = 32),
+    (Refusal::PageCrossing, 7, |question| {
+        question.access.address = VirtAddr(0x40_3fff);
+    }),
+    (Refusal::StoreAddress, 8, |question| {
+        question.store = PhysAddr(POOL + 0x10000);
+    }),
+    (Refusal::NoRegime, 9, |question| question.set = false),
+];
+
+/// A call: the refusal it gives, if any.
+type Call = fn(&Question) -> Option<Refusal>;
+
+/// The order in which each call checks (`docs/RULES.md`, 5.3). Which of two
+/// comes first follows from their places here, and from nothing else.
+const ORDERS: [(Call, &[Refusal]); 4] = [
+    (
+        walk,
+        &[
+            Refusal::MemoryPool,
+            Refusal::PoolAddress,
+            Refusal::Sizes,
+            Refusal::Root,
+            Refusal::Attributes,
+            Refusal::AccessSize,
+            Refusal::PageCrossing,
+        ],
+    ),
+    (
+        set_regime,
+        &[
+            Refusal::MemoryPool,
+            Refusal::PoolAddress,
+            Refusal::Sizes,
+            Refusal::Root,
+            Refusal::Attributes,
+        ],
+    ),
+    (
+        access,
+        &[
+            Refusal::NoRegime,
+            Refusal::MemoryPool,
+            Refusal::AccessSize,
+            Refusal::PageCrossing,
+        ],
+    ),
+    (
+        store,
+        &[
+            Refusal::NoRegime,
+            Refusal::MemoryPool,
+            Refusal::StoreAddress,
+        ],
+    ),
+];
+
+fn question() -> Question {
+    Question {
+        set: true,
+        lent: 0x10000,
+        regime: regime(),
+        access: read(),
+        store: PhysAddr(POOL),
+    }
+}
+
+fn walk(question: &Question) -> Option<Refusal> {
+    let lent = &mut memory()[..question.lent];
+    let answer = vmsa::walk(lent, &question.regime, &question.access);
+    answer.err().and_then(vmsa::Stop::refusal)
+}
+
+fn set_regime(question: &Question) -> Option<Refusal> {
+    let lent = &memory()[..question.lent];
+    Session::new().set_regime(lent, &question.regime).err()
+}
+
+/// The session of an access or a store. What is wrong with the regime does
+/// not reach it.
+fn session(question: &Question) -> Session {
+    let mut session = Session::new();
+    if question.set {
+        session.set_regime(&memory(), &regime()).unwrap();
+    }
+    session
+}
+
+fn access(question: &Question) -> Option<Refusal> {
+    let lent = &mut memory()[..question.lent];
+    let answer = session(question).access(lent, &question.access);
+    answer.err().and_then(vmsa::Stop::refusal)
+}
+
+fn store(question: &Question) -> Option<Refusal> {
+    let lent = &mut memory()[..question.lent];
+    session(question).store(lent, question.store, 0).err()
+}
+
+/// A question to which these refusals apply.
+fn spoilt(refusals: &[Refusal]) -> Question {
+    let mut question = question();
+    for refusal in refusals {
+        let (.., change) = REFUSALS.iter().find(|(of, ..)| of == refusal).unwrap();
+        change(&mut question);
+    }
+    question
+}
+
+#[test]
+fn numbers() {
+    let found = Refusal::ALL.map(|refusal| (refusal, refusal.number()));
+    assert_eq!(
+        found,
+        REFUSALS.map(|(refusal, number, _)| (refusal, number))
+    );
+}
+
+#[test]
+fn each_alone() {
+    for (call, order) in ORDERS {
+        assert_eq!(call(&question()), None);
+        for refusal in Refusal::ALL {
+            let expected = order.contains(&refusal).then_some(refusal);
+            assert_eq!(call(&spoilt(&[refusal])), expected, "{refusal:?}");
+        }
+    }
+}
+
+#[test]
+fn the_first_of_two() {
+    for (call, order) in ORDERS {
+        for (place, &refusal) in order.iter().enumerate() {
+            for &later in &order[place + 1..] {
+                let given = call(&spoilt(&[later, refusal]));
+                assert_eq!(given, Some(refusal), "{refusal:?}, {later:?}");
+            }
+        }
+    }
+}
+
+#[test]
+fn a_disabled_range_is_checked() {
+    for (range, refusal) in [
+        (Range::new(PhysAddr(0), 15), Refusal::Sizes),
+        (Range::new(PhysAddr(8), 16), Refusal::Root),
+    ] {
+        let disabled = Range {
+            disabled: true,
+            ..range
+        };
+        for regime in [regime().range0(disabled), regime().range1(disabled)] {
+            let question = Question {
+                regime,
+                ..question()
+            };
+            assert_eq!(walk(&question), Some(refusal));
+            assert_eq!(set_regime(&question), Some(refusal));
+        }
+    }
+}

@@ -1,0 +1,171 @@
+//! When a call is refused (RULES 5): the rows, and the order in which each
+//! call looks at them. That order stands here and nowhere else.
+
+use crate::reference::{
+    is_device, is_multiple, offset_in_memory, Access, Kind, Pool, Regime, GRANULE, MEMORY_LIMIT,
+    PHYSICAL_LIMIT, POOL_LIMIT,
+};
+
+/// The rows of a call by their numbers, in its order (RULES 5.3).
+pub const WALK: &[u8] = &[1, 2, 3, 4, 5, 6, 7];
+pub const SET_REGIME: &[u8] = &[1, 2, 3, 4, 5];
+pub const ACCESS: &[u8] = &[9, 1, 6, 7];
+pub const STORE: &[u8] = &[9, 1, 8];
+
+/// Whether a call looks at one of its rows before another.
+pub fn is_before(order: &[u8], row: u8, other: u8) -> bool {
+    let place = |wanted| order.iter().position(|&row| row == wanted);
+    match (place(row), place(other)) {
+        (Some(first), Some(second)) => first < second,
+        _ => panic!("rows {row} and {other} are not both among {order:?}"),
+    }
+}
+
+/// What the rows look at.
+#[derive(Clone, Copy)]
+struct Asked<'a> {
+    memory_length: usize,
+    /// The regime given, or else the session's, where it has one.
+    regime: Option<&'a Regime>,
+    access: Option<&'a Access>,
+    /// The address of a store.
+    store: Option<u64>,
+}
+
+impl Asked<'_> {
+    /// Nothing yet, over a memory of so many bytes.
+    fn over(memory_length: usize) -> Self {
+        Asked {
+            memory_length,
+            regime: None,
+            access: None,
+            store: None,
+        }
+    }
+
+    /// The first row of an order that applies.
+    fn first_of(&self, order: &[u8]) -> Option<u8> {
+        order.iter().copied().find(|&row| self.applies(row))
+    }
+
+    fn applies(&self, row: u8) -> bool {
+        let of_regime = |row: fn(&Regime) -> bool| self.regime.is_some_and(row);
+        let of_access = |row: fn(&Access) -> bool| self.access.is_some_and(row);
+        let pool = self.regime.map(|regime| &regime.pool);
+        match row {
+            1 => pool.is_some_and(|pool| row_1(self.memory_length, pool)),
+            2 => pool.is_some_and(row_2),
+            3 => of_regime(row_3),
+            4 => of_regime(row_4),
+            5 => of_regime(row_5),
+            6 => of_access(row_6),
+            7 => of_access(row_7),
+            8 => match (pool, self.store) {
+                (Some(pool), Some(address)) => row_8(pool, address),
+                _ => false,
+            },
+            9 => self.regime.is_none(),
+            _ => panic!("there is no row {row}"),
+        }
+    }
+}
+
+pub fn of_walk(memory_length: usize, regime: &Regime, access: &Access) -> Option<u8> {
+    let asked = Asked {
+        regime: Some(regime),
+        access: Some(access),
+        ..Asked::over(memory_length)
+    };
+    asked.first_of(WALK)
+}
+
+pub fn of_set_regime(memory_length: usize, regime: &Regime) -> Option<u8> {
+    let asked = Asked {
+        regime: Some(regime),
+        ..Asked::over(memory_length)
+    };
+    asked.first_of(SET_REGIME)
+}
+
+/// In a session, by the regime that it has.
+pub fn of_access(memory_length: usize, regime: Option<&Regime>, access: &Access) -> Option<u8> {
+    let asked = Asked {
+        regime,
+        access: Some(access),
+        ..Asked::over(memory_length)
+    };
+    asked.first_of(ACCESS)
+}
+
+/// In a session, by the regime that it has.
+pub fn of_store(memory_length: usize, regime: Option<&Regime>, address: u64) -> Option<u8> {
+    let asked = Asked {
+        regime,
+        store: Some(address),
+        ..Asked::over(memory_length)
+    };
+    asked.first_of(STORE)
+}
+
+// ------------------------------------------------------- the rows (RULES 5.1)
+
+/// The memory and the pool's place in it.
+pub fn row_1(memory_length: usize, pool: &Pool) -> bool {
+    memory_length > MEMORY_LIMIT
+        || !is_multiple(pool.start as u64, GRANULE)
+        || !is_multiple(pool.length as u64, GRANULE)
+        || pool.length == 0
+        || pool.length > POOL_LIMIT
+        || pool.start as u128 + pool.length as u128 > memory_length as u128
+}
+
+/// The pool's physical address.
+fn row_2(pool: &Pool) -> bool {
+    !is_multiple(pool.address, GRANULE)
+        || u128::from(pool.address) + pool.length as u128 > u128::from(PHYSICAL_LIMIT)
+}
+
+/// Size fields and output code; a disabled range counts too.
+fn row_3(regime: &Regime) -> bool {
+    regime.output_code > 5
+        || regime
+            .ranges
+            .iter()
+            .any(|range| range.t < 16 || range.t > 39)
+}
+
+/// Roots; a disabled range counts too.
+fn row_4(regime: &Regime) -> bool {
+    regime
+        .ranges
+        .iter()
+        .any(|range| !is_multiple(range.root, GRANULE) || range.root >= PHYSICAL_LIMIT)
+}
+
+/// Device has four spellings, Normal no empty half.
+fn row_5(regime: &Regime) -> bool {
+    let normal = |byte: u8| byte & 0x0F != 0 && byte & 0xF0 != 0;
+    !regime
+        .attributes
+        .iter()
+        .all(|&byte| is_device(byte) || normal(byte))
+}
+
+/// Size, and what fetches and probes ask beyond it.
+fn row_6(access: &Access) -> bool {
+    let fetch = access.kind == Kind::Fetch;
+    ![1, 2, 4, 8, 16].contains(&access.size)
+        || (fetch && (access.size != 4 || !is_multiple(access.address, 4)))
+        || (access.kind.is_probe() && access.size != 1)
+}
+
+/// First and last byte in one page. Of no bytes, the last is the first.
+fn row_7(access: &Access) -> bool {
+    let last = access.address.wrapping_add(access.size.saturating_sub(1));
+    access.address / GRANULE != last / GRANULE
+}
+
+/// A store's address.
+fn row_8(pool: &Pool, address: u64) -> bool {
+    address & 7 != 0 || offset_in_memory(pool, address).is_none()
+}
