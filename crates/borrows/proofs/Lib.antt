@@ -4,3 +4,4 @@ pub mod Shared
 pub mod Element
 pub mod Calls
 pub mod Locals
+pub mod Numbered
