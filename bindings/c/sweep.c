@@ -46,8 +46,8 @@ static int one_in(unsigned n)
 
 /* How the calls ended, and the number over all that they left. */
 
-static unsigned successes, faults, refusals[10], accepted, held, accessed,
-    dirtied;
+static unsigned successes, faults, refusals[UINT8_MAX + 1], accepted, held,
+    accessed, dirtied;
 static uint64_t digest = UINT64_C(0xCBF29CE484222325);
 
 static void add(const void *from, size_t size)
@@ -70,14 +70,14 @@ static void add_reply(unsigned refusal)
     if (refusal == 0)
         accepted++;
     else
-        refusals[refusal % 10]++;
+        refusals[refusal]++;
 }
 
 static void add_answer(const struct vmsa_answer *answer)
 {
     add(answer, sizeof *answer);
     if (answer->tag == VMSA_REFUSED)
-        refusals[answer->refusal % 10]++;
+        refusals[answer->refusal]++;
     else if (answer->tag == VMSA_FAULT)
         faults++;
     else
@@ -314,9 +314,10 @@ int main(void)
     printf("%u successes (%u set the Access flag, %u marked dirty), %u faults, "
            "%u of both from an entry\n",
            successes, accessed, dirtied, faults, held);
-    printf("%u accepted; refused 1 to 9:", accepted);
-    for (i = 1; i < 10; i++)
-        printf(" %u", refusals[i]);
+    printf("%u accepted; refused, by number:", accepted);
+    for (i = 1; i <= UINT8_MAX; i++)
+        if (refusals[i] != 0)
+            printf(" %d: %u", i, refusals[i]);
     printf("\n%d random calls, digest 0x%016" PRIx64 "\n", WORLDS * CALLS,
            digest);
     return 0;

@@ -82,7 +82,8 @@ refusals! {
     /// 2: pool address not a multiple of 4,096, or the pool ends above 2^48.
     PoolAddress = 2: "the pool's physical address is out of bounds";
 
-    /// 3: T of a range outside 16 to 39.
+    /// 3: T of a range outside 16 to 39. (An output size code out of bounds
+    /// too; no [`OutputSize`](crate::OutputSize) is one.)
     Sizes = 3: "a size field of the regime is out of bounds";
 
     /// 4: a root that is not a multiple of 4,096, or not below 2^48.

@@ -5,7 +5,6 @@ use mathlib.Core.List.{List, [], _∷_}
 use mathlib.Core.Path.{_≡_, refl, sym, ap, subst, _∙_}
 use native.Mathlib.Omega.{arith}
 use lib.Dec.{eqb}
-use lib.ListN.{getD}
 use borrow.Author.Tests.{eq-eqb, ne-eqb}
 use Rattle.descriptor.specs.Bits.{pick}
 use Rattle.descriptor.proofs.Tests.{clash}
@@ -18,12 +17,16 @@ use Rattle.vmsa.specs.declared.Fault.{Fault}
 use Rattle.vmsa.specs.declared.Answer.{Answer}
 use Rattle.vmsa.specs.declared.Answer.the-variants as answer
 
--- the refusal of a number
+-- the refusal of a number: the first of these that has it
+withNumber : List Refusal → ℕ → Refusal
+withNumber [] n = NoRegime
+withNumber (x ∷ xs) n = pick (eqb (numberOf x) n) x (withNumber xs n)
+
 refusalIn : ℕ → Refusal
-refusalIn n = getD (NoRegime ∷ MemoryPool ∷ PoolAddress ∷ Sizes ∷ Root ∷ Attributes ∷ AccessSize ∷ PageCrossing ∷ StoreAddress ∷ []) n NoRegime
+refusalIn n = withNumber (MemoryPool ∷ PoolAddress ∷ Sizes ∷ Root ∷ Attributes ∷ AccessSize ∷ PageCrossing ∷ StoreAddress ∷ NoRegime ∷ []) n
 
 refusal-back : (x : Refusal) → refusalIn (numberOf x) ≡ x
-unfolding refusalIn
+unfolding refusalIn withNumber
 refusal-back MemoryPool = refl
 refusal-back PoolAddress = refl
 refusal-back Sizes = refl
