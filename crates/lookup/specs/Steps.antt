@@ -74,7 +74,7 @@ entered c read below left table =
     visit (entryAt c left table)
     (onWord (ended (fault ExternalAbort (levelOf left))) (followed c below left (entryAt c left table)) (read (entryAt c left table)))
 
--- n levels from a table on; the last has no levels left
+-- n levels from a table on; the last has no levels left. The clause for none is never reached: level 3 has no tables (isTable)
 unfoldable pub descend : Context → (ℕ → Word) → ℕ → ℕ → Trace
 descend c read zero table = ended (fault Translation 3)
 descend c read (suc left) table = entered c read (descend c read left) left table

@@ -1,4 +1,4 @@
--- Rule 3 (RULES 11) as one claim about a list of calls, over any walker: from the calls and their replies alone, never from what is stored.
+-- Rule 3 (RULES 11) as one claim about a list of calls, over any walker W (specs/Code.antt states it of ours): from the calls and their replies alone, never from what is stored.
 use Prim.Native.Nat.{ℕ, _+_, _≤_, _<_}
 use mathlib.Core.Bool.{Bool, true, false}
 use mathlib.Core.List.{List, [], _∷_, _++_}
