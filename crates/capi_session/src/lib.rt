@@ -62,6 +62,8 @@ pub extern "C" fn vmsa_session_access(
         *answer = hit.answer;
         return;
     }
+    // read again, so that a hit does not pay for what only the longer way needs
+    let entry = session.entries[i];
     let filled = words::access_entry(session.regime, session.set, entry, memory, access);
     session.entries[i] = filled.entry;
     *answer = filled.answer;

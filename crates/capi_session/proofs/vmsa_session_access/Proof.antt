@@ -224,11 +224,15 @@ module _ {M : Type 1} (𝓤 : URA M) (H : Heap 𝓤) (A : Atoms 𝓤) (W : Given
         -- *answer = hit.answer; return;
         fetch ! 3 2 2 $ mutable.written N.the-type N′.the-laws ! N′.the-plain (named 3) κ‴ q‴ answer 3 (x .answer) (LL.owed J.the-type J′.the-laws x _ ih .1 .0) refl (part ! 5 1 refl refl refl) $
         gets ! (of-opd ! (unit-lit !)) 5 refl (tt, tt) $
-        -- the session is closed as it was, and the memory given up as it is; _9 and _17 to _20 were never set
-        move ! (2 ∷ 3 ∷ []) $ closed ! tt κ q session h is $ fetch ! 5 0 2 $ leaves-within ! Post 7 (9 ∷ 17 ∷ 18 ∷ 19 ∷ 20 ∷ []) _ refl refl refl $
+        -- the session is closed as it was, and the memory given up as it is; _9, _10 and _18 to _23 were never set
+        move ! (2 ∷ 3 ∷ []) $ closed ! tt κ q session h is $ fetch ! 5 0 2 $ leaves-within ! Post 7 (9 ∷ 10 ∷ 18 ∷ 19 ∷ 20 ∷ 21 ∷ 22 ∷ 23 ∷ []) _ refl refl refl $
         use1 W (‵ (finally u8 (memory .name) m)) (given-up 𝓤 H A W (named 1) κ′ (memory .name) (memory .ptr .0) (memory .ptr .1) m) $
         nothing ! $ move ! (2 ∷ 0 ∷ []) $ join ! $ move ! (4 ∷ 5 ∷ 2 ∷ 3 ∷ 0 ∷ 1 ∷ []) $ by ! (exits h m (x .answer) (answered h m g i (en .0) x eh z) refl))
         (λ _.
+        -- let entry = session.entries[i];
+        gets-anew ! (bin ! (local ! 3 refl) (lit ! tt) (record { fits = far i (en .1) })) 3 refl (tt, record { fits = far i (en .1) }) $
+        gets ! (addr ! (behind-is ! 3 1 refl entries-lie)) 3 refl (tt, tt) $ gets ! (element ! 24 i (local ! 3 refl) (local ! 3 refl)) 3 refl (tt, tt) $
+        gets-anew ! (of-opd ! (entry-of session is i (en .1) ! 3 0 refl refl)) 3 refl (entry-typed is i (en .1)) $ gets ! (of-opd ! (local ! 3 refl)) 3 refl (entry-typed is i (en .1)) $
         -- let filled = words::access_entry(session.regime, session.set, entry, memory, access);
         gets-anew ! (of-opd ! (behind ! 3 0 0 refl refl regime-lies)) 3 refl (regime-typed h is 𝓤 H A W) $ gets-anew ! (of-opd ! (behind ! 3 0 2 refl refl set-lies)) 3 refl (set-typed h is 𝓤 H A W) $
         gets ! (addr ! (points ! 3 refl refl refl)) 3 refl (tt, tt) $
