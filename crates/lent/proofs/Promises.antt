@@ -3,18 +3,26 @@
 -- there is no `Learnt` to name, as there is for those by value.)
 use Prim.Native.Nat.{ℕ}
 use mathlib.Core.List.{List}
+use mathlib.Core.Path.{_≡_, sym, ap, subst⁻¹, _∙_}
 use base.Logic.{ent, emp, id⊢}
 use contract.Lifetimes.{Lfts}
 use contract.Monad.{fact}
 use denote.Ref.{RefT, at-last}
 use denote.Triple.Clauses.{ClausesAt}
 use borrow.Fn.World.{World as LogicModel}
+use Rattle.vmsa.specs.Answers.{view}
 use Rattle.vmsa.specs.declared.Regime.{Regime}
 use Rattle.vmsa.specs.declared.Access.{Access}
 use Rattle.vmsa.specs.declared.Answer.{Answer}
 use Rattle.vmsa.specs.declared.PhysAddr.{PhysAddr}
 use Rattle.checks.specs.declared.Checked.{Checked}
+use Rattle.tlb.specs.Replies.{Reply, replyOf, replyTo}
+use Rattle.tlb.proofs.Access.{AnAnswer, reply-settles}
 use Rattle.session.specs.declared.Session.{Session as SessionStruct}
+use Rattle.session.specs.Model.{Handed, handed}
+use Rattle.session.specs.View.{sessionView}
+use Rattle.session.proofs.Calls.{access-answer}
+use Rattle.session.proofs.Promises.{reply-one}
 use Rattle.lent.specs.Says.{SetSays, AccessSays, StoreSays, DropSays}
 use Rattle.lent.proofs.set_regime as SetRegime
 use Rattle.lent.proofs.access as AccessOf
@@ -65,3 +73,25 @@ module _ (W : LogicModel) (lives : Lfts 1) (session : RefT SessionStruct) where
 
   pub drop-free : ent (W .𝓤) (emp (W .𝓤)) (dropClauses .requires tt)
   drop-free = id⊢ (W .𝓤) _
+
+-- ---- and that is one result, each part of it: no two results meet a contract
+
+module _ (s : SessionStruct) (m : List ℕ) (s′ t′ : SessionStruct) (m′ n′ : List ℕ) where
+  checked-one : (x y : Checked) → handed s′ m′ (replyTo x) ≡ handed t′ n′ (replyTo y) → (s′ ≡ t′) × (m′ ≡ n′) × (x ≡ y)
+  checked-one x y e =
+      (ap (λ (t : Handed SessionStruct Reply). t .session) e, ap (λ (t : Handed SessionStruct Reply). t .memory) e, reply-one x y (ap (λ (t : Handed SessionStruct Reply). t .reply) e))
+
+  pub set-one : (r : Regime) (x y : Checked) → SetSays s m r s′ m′ x → SetSays s m r t′ n′ y → (s′ ≡ t′) × (m′ ≡ n′) × (x ≡ y)
+  set-one r x y h k = checked-one x y (h ∙ sym k)
+
+  pub store-one : (address : PhysAddr) (value : ℕ) (x y : Checked) → StoreSays s m address value s′ m′ x → StoreSays s m address value t′ n′ y → (s′ ≡ t′) × (m′ ≡ n′) × (x ≡ y)
+  store-one address value x y h k = checked-one x y (h ∙ sym k)
+
+  pub access-one : (a : Access) (x y : Answer) → AccessSays s m a s′ m′ x → AccessSays s m a t′ n′ y → (s′ ≡ t′) × (m′ ≡ n′) × (x ≡ y)
+  access-one a x y h k =
+      let e = h ∙ sym k in
+      let low : AnAnswer (replyOf (view x)) = subst⁻¹ AnAnswer (ap (λ (t : Handed SessionStruct Reply). t .reply) h) (access-answer (sessionView s) m a) in (
+        ap (λ (t : Handed SessionStruct Reply). t .session) e,
+        ap (λ (t : Handed SessionStruct Reply). t .memory) e,
+        reply-settles x y low (ap (λ (t : Handed SessionStruct Reply). t .reply) e),
+      )

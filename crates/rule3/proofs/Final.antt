@@ -128,7 +128,7 @@ module _ (F : Functions SessionStruct) (is : Leaving F) (s₀ : SessionStruct) (
 
 -- ---- the functions of a session, by their own contracts
 
-begun-fresh : (s : SessionStruct) → Begun s → sessionView s ≡ fresh
+pub begun-fresh : (s : SessionStruct) → Begun s → sessionView s ≡ fresh
 begun-fresh s h = ap sessionView (empty-promise s h)
 
 pub rule-3-code : Rule3OfCode

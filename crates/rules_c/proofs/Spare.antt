@@ -37,29 +37,29 @@ use Rattle.rules_c.proofs.Chains.{made-is}
 
 -- ---- what is read of a struct
 
-regime-read : (g : RegimeWords) → regimeOf (regimeSpare0 g) ≡ regimeOf g
+regime-spare : (g : RegimeWords) → regimeOf (regimeSpare0 g) ≡ regimeOf g
 unfolding regimeOf
-regime-read g = refl
+regime-spare g = refl
 
-regimes-read : (g h : RegimeWords) → regimeSpare0 g ≡ regimeSpare0 h → regimeOf g ≡ regimeOf h
-regimes-read g h e = sym (regime-read g) ∙ ap regimeOf e ∙ regime-read h
+regimes-alike : (g h : RegimeWords) → regimeSpare0 g ≡ regimeSpare0 h → regimeOf g ≡ regimeOf h
+regimes-alike g h e = sym (regime-spare g) ∙ ap regimeOf e ∙ regime-spare h
 
-access-read : (a : AccessWords) → accessOf (accessSpare0 a) ≡ accessOf a
+access-spare : (a : AccessWords) → accessOf (accessSpare0 a) ≡ accessOf a
 unfolding accessOf
-access-read a = refl
+access-spare a = refl
 
-accesses-read : (a b : AccessWords) → accessSpare0 a ≡ accessSpare0 b → accessOf a ≡ accessOf b
-accesses-read a b e = sym (access-read a) ∙ ap accessOf e ∙ access-read b
+accesses-alike : (a b : AccessWords) → accessSpare0 a ≡ accessSpare0 b → accessOf a ≡ accessOf b
+accesses-alike a b e = sym (access-spare a) ∙ ap accessOf e ∙ access-spare b
 
-entries-read : (es : List EntryStruct) → map entryView (map entrySpare0 es) ≡ map entryView es
-entries-read [] = refl
-entries-read (e ∷ es) = ap (λ (t : List Entry). entryView e ∷ t) (entries-read es)
+entries-spare : (es : List EntryStruct) → map entryView (map entrySpare0 es) ≡ map entryView es
+entries-spare [] = refl
+entries-spare (e ∷ es) = ap (λ (t : List Entry). entryView e ∷ t) (entries-spare es)
 
 regime-in : (g : RegimeWords) (n : ℕ) → regimeIn (regimeSpare0 g) n ≡ regimeIn g n
-regime-in g n = ap (λ (r : Regime). pick (flag n) (some r) none) (regime-read g)
+regime-in g n = ap (λ (r : Regime). pick (flag n) (some r) none) (regime-spare g)
 
-session-read : (s : SessionStruct) → sessionView (sessionSpare0 s) ≡ sessionView s
-session-read s i = record { regime = regime-in (s .regime) (s .set) i; entries = entries-read (s .entries) i }
+session-spare : (s : SessionStruct) → sessionView (sessionSpare0 s) ≡ sessionView s
+session-spare s i = record { regime = regime-in (s .regime) (s .set) i; entries = entries-spare (s .entries) i }
 
 -- ---- what a call leaves of a session
 
@@ -85,12 +85,12 @@ accessed-entry g n e m a =
 with-entries : (s : SessionStruct) (es fs : List EntryStruct) → es ≡ map entrySpare0 fs → withEntries (sessionSpare0 s) es ≡ sessionSpare0 (withEntries s fs)
 with-entries s es fs e = ap (withEntries (sessionSpare0 s)) e
 
-regime-words : (r : Regime) → regimeWords r ≡ regimeSpare0 (regimeWords r)
+words-spare : (r : Regime) → regimeWords r ≡ regimeSpare0 (regimeWords r)
 unfolding regimeWords
-regime-words r = refl
+words-spare r = refl
 
 set-to : (r : Regime) → setTo (regimeWords r) ≡ sessionSpare0 (setTo (regimeWords r))
-set-to r i = record { regime = regime-words r i; entries = sym (same-entries entryCount) i; set = 1; spare8 = 0; spare16 = 0; spare32 = 0 }
+set-to r i = record { regime = words-spare r i; entries = sym (same-entries entryCount) i; set = 1; spare8 = 0; spare16 = 0; spare32 = 0 }
 
 after : (s : SessionStruct) (m : List ℕ) (c : Call) → sessionAfter (sessionSpare0 s) m c ≡ sessionSpare0 (sessionAfter s m c)
 after s m (setRegime r) = by (regimeCheck (length m) r)
@@ -112,7 +112,7 @@ spareless x = handed (sessionSpare0 (x .session)) (x .memory) (x .reply)
 
 leaves-spareless : (s : SessionStruct) (m : List ℕ) (c : Call) → leaves (sessionSpare0 s) m c ≡ spareless (leaves s m c)
 leaves-spareless s m c =
-    ap (λ (t : Session). handed (sessionAfter (sessionSpare0 s) m c) (call ours t m c .memory) (call ours t m c .reply)) (session-read s)
+    ap (λ (t : Session). handed (sessionAfter (sessionSpare0 s) m c) (call ours t m c .memory) (call ours t m c .reply)) (session-spare s)
     ∙ ap (λ (t : SessionStruct). handed t (leaves s m c .memory) (leaves s m c .reply)) (after s m c)
 
 sessions : (s t : SessionStruct) → sessionSpare0 s ≡ sessionSpare0 t → (m : List ℕ) (c : Call) → spareless (leaves s m c) ≡ spareless (leaves t m c)
@@ -134,7 +134,7 @@ reply-zero (answered o n) = words-zero o
 -- ---- every list
 
 fresh : emptySession ≡ sessionSpare0 emptySession
-fresh i = record { regime = regime-words initial i; entries = sym (same-entries entryCount) i; set = 0; spare8 = 0; spare16 = 0; spare32 = 0 }
+fresh i = record { regime = words-spare initial i; entries = sym (same-entries entryCount) i; set = 0; spare8 = 0; spare16 = 0; spare32 = 0 }
 
 list-zero : (s₀ : SessionStruct) → EmptySays s₀ → (m₀ : List ℕ) {s : SessionStruct} {m : List ℕ} {past : List Event} → Chain MadeC s₀ m₀ s m past → s ≡ sessionSpare0 s
 list-zero s₀ h m₀ none-yet = h ∙ fresh ∙ sym (ap sessionSpare0 h)
@@ -150,10 +150,10 @@ handed-parts x y e = (ap (λ (t : Handed SessionStruct _). t .session) e, ap (λ
 pub spare-of-c : SpareOfC
 spare-of-c = record {
   walk = λ m g h a b eg ea m′ n′ w x p q.
-      let e = p ∙ ap₂ (λ (r : Regime) (v : Access). walkWords r v m) (regimes-read g h eg) (accesses-read a b ea) ∙ sym q in
+      let e = p ∙ ap₂ (λ (r : Regime) (v : Access). walkWords r v m) (regimes-alike g h eg) (accesses-alike a b ea) ∙ sym q in
       (ap (λ (t : Told AnswerWords). t .reply) e, ap (λ (t : Told AnswerWords). t .memory) e);
-  set = λ s m g h e s′ t′ m′ n′ k l p q. handed-parts (handed s′ m′ k) (handed t′ n′ l) (p ∙ ap (λ (r : Regime). replied refusalByte (leaves s m (setRegime r))) (regimes-read g h e) ∙ sym q);
-  access = λ s m a b e s′ t′ m′ n′ w x p q. handed-parts (handed s′ m′ w) (handed t′ n′ x) (p ∙ ap (λ (v : Access). replied replyWords (leaves s m (access v))) (accesses-read a b e) ∙ sym q);
+  set = λ s m g h e s′ t′ m′ n′ k l p q. handed-parts (handed s′ m′ k) (handed t′ n′ l) (p ∙ ap (λ (r : Regime). replied refusalByte (leaves s m (setRegime r))) (regimes-alike g h e) ∙ sym q);
+  access = λ s m a b e s′ t′ m′ n′ w x p q. handed-parts (handed s′ m′ w) (handed t′ n′ x) (p ∙ ap (λ (v : Access). replied replyWords (leaves s m (access v))) (accesses-alike a b e) ∙ sym q);
   session = λ s t e m c x y p q. handed-parts (spareless x) (spareless y) (ap spareless (made-is p) ∙ sessions s t e m c ∙ sym (ap spareless (made-is q)));
   walked = λ m g a m′ w p. ap (λ (t : Told AnswerWords). t .reply .spare) p ∙ words-zero (walk (regimeOf g) (accessOf a) m .result);
   accessed = λ s m a s′ m′ w p. ap (λ (t : Handed SessionStruct AnswerWords). t .reply .spare) p ∙ reply-zero (leaves s m (access (accessOf a)) .reply);

@@ -4,14 +4,12 @@ use Prim.Native.Nat.{ℕ}
 use mathlib.Core.Path.{_≡_, ap}
 use Rattle.tlb.specs.Replies.{Reply, done}
 use Rattle.session.specs.declared.Session.{Session as SessionStruct}
-use Rattle.session.specs.Model.{fresh, Handed, handed, Call}
-use Rattle.session.specs.View.{sessionView, regimeHeld, leaves}
-use Rattle.session.proofs.Promises.{empty-promise}
+use Rattle.session.specs.Model.{Handed, handed, Call}
+use Rattle.session.specs.View.{regimeHeld, leaves}
 use Rattle.calls.specs.Chains.{Leaving}
-use Rattle.calls.specs.Code.{Begun}
 use Rattle.calls.proofs.Rule1.{rule1-leaves}
 use Rattle.calls.proofs.Lists.{rule1-list}
-use Rattle.rule3.proofs.Final.{rule-3-of, rule-3-next-of}
+use Rattle.rule3.proofs.Final.{begun-fresh, rule-3-of, rule-3-next-of}
 use Rattle.rules_lent.specs.Code.{MadeLent, set-regime, accessed, stored, dropped-all, Rule1OfCallLent, Rule1OfLent, Rule3OfLent, NextOfLent}
 
 -- any call of these functions, by its own contract, leaves what `leaves` says
@@ -23,9 +21,6 @@ made-is (dropped-all s s′ m h) = ap (λ (t : SessionStruct). handed t m done) 
 
 pub made-leaves : Leaving MadeLent
 made-leaves s m c x made = made-is made
-
-begun-fresh : (s : SessionStruct) → Begun s → sessionView s ≡ fresh
-begun-fresh s h = ap sessionView (empty-promise s h)
 
 -- ---- rule 1, and rule 3
 

@@ -49,7 +49,7 @@ drop-promise s after h m = ap (λ (t : SessionStruct). handed t m done) h
 
 -- ---- and that is one result, each part of it: no two results meet a contract
 
-reply-one : (x y : Checked) → replyTo x ≡ replyTo y → x ≡ y
+pub reply-one : (x y : Checked) → replyTo x ≡ replyTo y → x ≡ y
 reply-one Accepted Accepted e = refl
 reply-one Accepted (Refused y) e = clash (cc)
 reply-one (Refused x) Accepted e = clash (cc)
