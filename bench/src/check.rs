@@ -1,7 +1,8 @@
-//! Both sides on random descriptors, tables, regimes and accesses: each whole
-//! answer and each byte of memory is to be the same.
+//! Both sides on random descriptors, tables, regimes and accesses, and on any
+//! two mistakes of a call: each whole answer and each byte of memory is to be
+//! the same.
 
-use crate::boundary::{self, Access, Regime};
+use crate::boundary::{self, Access, Regime, READ, REFUSED};
 use crate::kernels;
 use crate::plain;
 
@@ -39,7 +40,7 @@ impl Random {
         let mut regime = kernels::regime();
         regime.spare = self.spare();
         regime.ha = flag(0);
-        regime.hd = flag(1);
+        regime.hd = flag(0) & flag(1);
         regime.wxn = flag(2);
         regime.disabled1 = flag(3) & flag(4);
         if self.rarely() {
@@ -54,13 +55,14 @@ impl Random {
             regime.tsz1 = 15 + self.below(26) as u8;
         }
         if self.rarely() {
-            match self.below(6) {
+            match self.below(7) {
                 0 => regime.start = 4096,
                 1 => regime.length = 0x8000,
                 2 => regime.address = (1 << 48) - 0xf000,
                 3 => regime.root0 += 8,
                 4 => regime.root0 = 1 << 40,
-                _ => regime.attributes = 0x10,
+                5 => regime.attributes = 0x10,
+                _ => (regime.ha, regime.hd) = (0, 2),
             }
         }
         regime
@@ -140,10 +142,54 @@ impl Random {
     }
 }
 
-/// Gives the number of calls compared, and panics at the first difference.
+/// Gives the number of random calls compared, and panics at the first
+/// difference.
 pub fn same_answers() -> u32 {
     let mut random = Random(0x9e37_79b9_7f4a_7c15);
+    same_refusals();
     same_descriptors(&mut random) + same_walks(&mut random)
+}
+
+/// Spoils a call, whatever else was changed.
+type Mistake = fn(&mut Regime, &mut Access);
+
+/// What a walk is refused with, in its order, and what brings it about.
+const MISTAKES: [(u8, Mistake); 8] = [
+    (1, |regime, _| regime.start = 4096),
+    (2, |regime, _| regime.address += 8),
+    (3, |regime, _| regime.tsz1 = 40),
+    (4, |regime, _| regime.root1 = 1 << 48),
+    (5, |regime, _| regime.attributes = 0x10),
+    (13, |regime, _| regime.ha = 0),
+    (6, |_, access| access.size = 32),
+    (7, |_, access| access.address = 0x40_0fff),
+];
+
+/// Each mistake alone, and any two of them: the first counts.
+fn same_refusals() {
+    let (mut ours, mut plain) = (kernels::memory(), kernels::memory());
+    for (first, (number, mistake)) in MISTAKES.into_iter().enumerate() {
+        for (_, later) in &MISTAKES[first..] {
+            let mut regime = kernels::regime();
+            let mut access = Access {
+                address: 0x40_0abc,
+                size: 4,
+                el0: 1,
+                kind: READ,
+                spare: [0; 6],
+            };
+            later(&mut regime, &mut access);
+            mistake(&mut regime, &mut access);
+
+            let answer = boundary::walk(&mut ours, &regime, &access);
+            assert_eq!((answer.tag, answer.refusal), (REFUSED, number));
+            assert_eq!(answer, plain::walk(&mut plain, &regime, &access));
+            let reply = boundary::Session::empty().set_regime(&ours, &regime);
+            let plain_reply = plain::Session::empty().set_regime(&plain, &regime);
+            assert_eq!(reply, plain_reply, "{number}");
+        }
+    }
+    assert!(ours == plain, "other bytes after a refusal");
 }
 
 /// Loads and stores, half of them in fewer than 16 bytes.

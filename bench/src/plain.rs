@@ -106,6 +106,8 @@ fn refuse_regime(length: usize, regime: &Regime) -> Option<u8> {
         .all(attribute_known)
     {
         Some(5)
+    } else if regime.hd != 0 && regime.ha == 0 {
+        Some(13)
     } else {
         None
     }

@@ -168,7 +168,7 @@ static struct vmsa_regime random_regime(void)
     r.disabled1 = (uint8_t)one_in(20);
     r.output = (uint8_t)(one_in(4) ? below(7) : 5);
     r.ha = (uint8_t)!one_in(4);
-    r.hd = (uint8_t)!one_in(4);
+    r.hd = (uint8_t)(r.ha ? !one_in(4) : one_in(32)); /* alone: refused */
     r.wxn = (uint8_t)one_in(4);
     memset(r.spare, (int)below(256), sizeof r.spare);
     return r;

@@ -305,8 +305,10 @@ static const struct worked worked[] = {
       VMSA_REFUSED, 6, CLEAN },
     { "P4", TABLE, CLEAN, 5, 1, 0, 0xFF, VMSA_WRITE, 0x403ABC, 4,
       VMSA_FAULT, 15, CLEAN },
-    { "P5", TABLE, CLEAN, 5, 0, 1, 0xFF, VMSA_WRITE, 0x403ABC, 4,
+    { "P5", TABLE, CLEAN, 5, 0, 0, 0xFF, VMSA_WRITE, 0x403ABC, 4,
       VMSA_FAULT, 11, CLEAN },
+    { "P5, HD on", TABLE, CLEAN, 5, 0, 1, 0xFF, VMSA_WRITE, 0x403ABC, 4,
+      VMSA_REFUSED, 13, CLEAN },
     { "P6", 0x4000F003, CLEAN, 5, 1, 1, 0xFF, VMSA_READ, 0x403ABC, 4,
       VMSA_FAULT, 7, CLEAN },
     { "P7", 0x40010003, CLEAN, 5, 1, 1, 0xFF, VMSA_READ, 0x403ABC, 4,
@@ -469,6 +471,45 @@ static void test_refused_attributes(void)
         }
 }
 
+/* A walk that writes under a regime with these updates, and a set regime. */
+static void takes_updates(struct vmsa_regime regime)
+{
+    struct vmsa_answer answer = fault(11, 3, 4);
+
+    started();
+    given(LEAF, CLEAN);
+    if (regime.hd != 0) {
+        answer = found(FRAME + 0xABC, AF | DIRTIED, 4);
+        put(&want, LEAF, DIRTY);
+    } else if (regime.ha != 0) {
+        answer = fault(15, 3, 4);
+    }
+    expect_walk("updates", regime, a_write(), answer);
+
+    holds_nothing();
+    want.session.regime.ha = regime.ha != 0;
+    want.session.regime.hd = regime.hd != 0;
+    expect_set("updates", regime, VMSA_ACCEPTED);
+}
+
+/* Each flag off, or on by several bytes: hd on with ha off is refused. */
+static void test_updates(void)
+{
+    static const uint8_t flags[] = { 0, 1, 0x80, 0xFF };
+    struct vmsa_regime regime = worked_regime();
+    size_t ha, hd;
+
+    for (ha = 0; ha < sizeof flags; ha++)
+        for (hd = 0; hd < sizeof flags; hd++) {
+            regime.ha = flags[ha];
+            regime.hd = flags[hd];
+            if (regime.hd != 0 && regime.ha == 0)
+                refuses("hd without ha", 13, VMSA_POOL_LIMIT, regime);
+            else
+                takes_updates(regime);
+        }
+}
+
 /* An access that a walk and a session refuse. */
 static void refuses_access(const char *name, unsigned number,
                            struct vmsa_access access)
@@ -520,6 +561,14 @@ static void test_refused_calls(void)
     expect_store("store, no memory", LEAF, 1, 1);
 }
 
+/* What is wrong with the regime, a walk and a set regime find alike. */
+static void order(const char *name, unsigned number, struct vmsa_regime regime,
+                  struct vmsa_access access)
+{
+    expect_walk(name, regime, access, refused(number));
+    expect_set(name, regime, number);
+}
+
 /* A call with every mistake; mended one by one, the numbers come in order. */
 static void test_refusal_order(void)
 {
@@ -532,15 +581,18 @@ static void test_refusal_order(void)
     regime.tsz0 = 15;
     regime.root1 = 8;
     regime.attributes = 1;
-    expect_walk("order 1", regime, access, refused(1));
+    regime.hd = 1;
+    order("order 1", 1, regime, access);
     regime.length = good.length;
-    expect_walk("order 2", regime, access, refused(2));
+    order("order 2", 2, regime, access);
     regime.address = good.address;
-    expect_walk("order 3", regime, access, refused(3));
+    order("order 3", 3, regime, access);
     regime.tsz0 = good.tsz0;
-    expect_walk("order 4", regime, access, refused(4));
+    order("order 4", 4, regime, access);
     regime.root1 = good.root1;
-    expect_walk("order 5", regime, access, refused(5));
+    order("order 5", 5, regime, access);
+    regime.attributes = good.attributes;
+    order("order 13", 13, regime, access);
     regime = good;
     expect_walk("order 6", regime, access, refused(6));
     access.size = 2;
@@ -641,6 +693,36 @@ static void test_odd_values(void)
     want.session = lent.session;
     expect_access("any bytes", access, refused(1));
     expect_store("any bytes", LEAF, 1, 1);
+}
+
+/*
+ * A session whose bytes have hd without ha, as no call leaves them: it is not
+ * refused, no leaf is writable-clean, and no Access flag is set.
+ */
+static void test_odd_updates(void)
+{
+    struct vmsa_access fetch = access_of(VMSA_FETCH, ADDRESS, 4);
+    struct vmsa_answer denied = fault(15, 3, 0);
+
+    started();
+    lent.session.regime.ha = 0;
+    want.session = lent.session;
+    fetch.el0 = 0;
+    denied.cacheable = 1;
+    expect_access("hd alone, held", a_read(), found(FRAME + 0xABC, 0, 0));
+    expect_access("hd alone, fetch, held", fetch, found(FRAME + 0xABC, 0, 0));
+    expect_access("hd alone, write, held", a_write(), denied);
+    holds_nothing();
+    expect_invalidate("hd alone");
+    holds(PAGE, READ);
+    denied.reads = 4;
+    expect_access("hd alone, write", a_write(), denied);
+
+    put(&want, LEAF, CLEAN);
+    expect_store("hd alone", LEAF, CLEAN, VMSA_ACCEPTED);
+    holds_nothing();
+    expect_invalidate("hd alone");
+    expect_access("hd alone, AF clear", a_read(), fault(11, 3, 4));
 }
 
 /* Spare bytes */
@@ -747,18 +829,47 @@ static void test_init(void)
 
 /* Texts */
 
+/* The numbers with a text of their own. */
+static const unsigned known[] = {
+    VMSA_ACCEPTED,
+    VMSA_REFUSED_MEMORY_POOL,
+    VMSA_REFUSED_POOL_ADDRESS,
+    VMSA_REFUSED_SIZES,
+    VMSA_REFUSED_ROOT,
+    VMSA_REFUSED_ATTRIBUTES,
+    VMSA_REFUSED_ACCESS_SIZE,
+    VMSA_REFUSED_PAGE_CROSSING,
+    VMSA_REFUSED_STORE_ADDRESS,
+    VMSA_REFUSED_NO_REGIME,
+    VMSA_REFUSED_DIRTY_STATE
+};
+#define KNOWN (sizeof known / sizeof known[0])
+
+static int is_known(unsigned number)
+{
+    size_t i;
+
+    for (i = 0; i < KNOWN; i++)
+        if (known[i] == number)
+            return 1;
+    return 0;
+}
+
 static void test_refusal_texts(void)
 {
-    const char *unknown = vmsa_refusal_text(10);
-    unsigned i, j;
+    unsigned number;
+    size_t i, j;
 
-    check("texts", "10", strcmp(unknown, "unknown refusal") == 0);
-    check("texts", "256", vmsa_refusal_text(256) == unknown);
     check("texts", "0", strcmp(vmsa_refusal_text(0), "accepted") == 0);
-    for (i = 0; i < 10; i++)
-        for (j = i + 1; j <= 10; j++)
+    for (number = 0; number <= 300; number++)
+        check("texts", "unknown refusal",
+              (strcmp(vmsa_refusal_text(number), "unknown refusal") == 0) !=
+                  is_known(number));
+    for (i = 0; i < KNOWN; i++)
+        for (j = i + 1; j < KNOWN; j++)
             check("texts", "two refusals with one text",
-                  strcmp(vmsa_refusal_text(i), vmsa_refusal_text(j)) != 0);
+                  strcmp(vmsa_refusal_text(known[i]),
+                         vmsa_refusal_text(known[j])) != 0);
 }
 
 static const char *fault_name(unsigned code)
@@ -803,12 +914,14 @@ int main(void)
     test_refused_sizes();
     test_refused_roots();
     test_refused_attributes();
+    test_updates();
     test_refused_access();
     test_refused_calls();
     test_refusal_order();
     test_script();
     test_entries();
     test_odd_values();
+    test_odd_updates();
     test_spare_given();
     test_spare_session();
     test_spare_set();

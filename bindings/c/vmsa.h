@@ -70,7 +70,7 @@ extern "C" {
 #endif
 
 /* The version of this interface; vmsa_version() gives the library's. */
-#define VMSA_VERSION 4u
+#define VMSA_VERSION 5u
 
 /* The most bytes of a lent memory, and of a pool. */
 #define VMSA_MEMORY_LIMIT 1048576u
@@ -97,7 +97,8 @@ struct vmsa_regime {
     uint8_t disabled1;   /* EPD1 */
     uint8_t output;      /* IPS: 0 to 5 for 32, 36, 40, 42, 44, 48 bits */
     uint8_t ha;          /* the walk sets the Access flag */
-    uint8_t hd;          /* the walk marks pages dirty; only where ha is set */
+    uint8_t hd;          /* the walk marks pages dirty; needs ha, or else the
+                            regime is refused with 13 */
     uint8_t wxn;         /* writable pages are execute-never */
     uint8_t spare[8];
 };
@@ -151,8 +152,12 @@ enum vmsa_fault_code {
 };
 
 /*
- * Why a call is refused. A walk checks 1 to 7 in that order; setting a regime
- * 1 to 5; an access in a session 9, 1, 6, 7; a store 9, 1, 8.
+ * Why a call is refused: the first that applies, in the call's own order.
+ *   vmsa_walk                1, 2, 3, 4, 5, 13, 6, 7
+ *   vmsa_session_set_regime  1, 2, 3, 4, 5, 13
+ *   vmsa_session_access      9, 1, 6, 7
+ *   vmsa_session_store       9, 1, 8
+ * Later versions add numbers: a switch over them needs a default.
  */
 enum vmsa_refusal {
     VMSA_ACCEPTED = 0,
@@ -172,7 +177,8 @@ enum vmsa_refusal {
     VMSA_REFUSED_PAGE_CROSSING = 7, /* first and last byte in two pages */
     VMSA_REFUSED_STORE_ADDRESS = 8, /* not a multiple of 8, or not in the
                                        pool */
-    VMSA_REFUSED_NO_REGIME = 9      /* the session has no regime yet */
+    VMSA_REFUSED_NO_REGIME = 9,     /* the session has no regime yet */
+    VMSA_REFUSED_DIRTY_STATE = 13   /* hd is set and ha is not */
 };
 
 /*
@@ -283,6 +289,8 @@ static inline const char *vmsa_refusal_text(unsigned number)
         return "the descriptor is unaligned or not in the pool";
     case VMSA_REFUSED_NO_REGIME:
         return "the session has no regime";
+    case VMSA_REFUSED_DIRTY_STATE:
+        return "HD is on and HA is off";
     default:
         return "unknown refusal";
     }

@@ -12,6 +12,7 @@ pub mod rule3;
 pub mod scripts;
 pub mod session;
 pub mod tally;
+pub mod vectors;
 
 #[cfg(test)]
 mod tests;

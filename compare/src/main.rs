@@ -1,20 +1,32 @@
-//! Compares the library with a second walker: its walk over many made cases,
-//! then its session over many made scripts.
+//! Compares the library with a second program.
 //!
-//! `compare [seed] [--trace]`: the seed is decimal or 0x hexadecimal. With
+//! `compare [seed] [--trace]`: its walk over many made cases, then its session
+//! over many made scripts. The seed is decimal or 0x hexadecimal. With
 //! `--trace` each case and each call is told on standard error before the
 //! library is called, so that a crash can be placed.
+//!
+//! `compare vectors FILE..`: library and second program on the cases of files,
+//! which also say what should come of them (`vectors/README.md`).
+//!
+//! The status is 0, or 1 where there is a difference, or 2 where the arguments
+//! or a file cannot be used.
 
 mod comparison;
 
 use compare::boundary::{
-    CAccess, CAnswer, CRegime, CSession, Library, LibrarySession, SessionFunctions,
+    CAccess, CAnswer, CRegime, CSession, Library, LibrarySession, SessionFunctions, Spelling,
 };
+use compare::reference::{Access, Regime};
+use compare::vectors::{File, Party};
 use compare::{cases, scripts};
 use comparison::Comparison;
 use std::process::ExitCode;
 
 const DEFAULT_SEED: u64 = 0x0148_7D1E_5CA1_AB1E;
+
+// The statuses other than 0.
+const DIFFERENT: u8 = 1;
+const UNUSABLE: u8 = 2;
 
 extern "C" {
     fn vmsa_walk(
@@ -94,23 +106,84 @@ fn compare_scripts(seed: u64, trace: bool) -> bool {
     true
 }
 
-fn main() -> ExitCode {
+/// The library as linked, for the vectors.
+struct Linked;
+
+impl Party for Linked {
+    const NAME: &'static str = "library";
+    type Session = LibrarySession;
+
+    fn walk(
+        &self,
+        memory: &mut [u8],
+        regime: &Regime,
+        access: &Access,
+        spelling: Spelling,
+    ) -> (CAnswer, Option<Vec<u64>>) {
+        // SAFETY: as above.
+        let library = unsafe { Library::new(vmsa_walk) };
+        (library.walk(memory, regime, access, spelling), None)
+    }
+
+    fn fresh(&self, noise: u64) -> Result<LibrarySession, String> {
+        // SAFETY: as above.
+        unsafe { LibrarySession::fresh(SESSION, noise) }
+    }
+}
+
+/// The vectors of some files, once all of them are read.
+fn hold_vectors(names: &[String]) -> ExitCode {
+    let files: Result<Vec<File>, String> = names.iter().map(|name| File::open(name)).collect();
+    let files = match files {
+        Ok(files) => files,
+        Err(problem) => {
+            eprintln!("{problem}");
+            return ExitCode::from(UNUSABLE);
+        }
+    };
+    let mut all_same = true;
+    for file in &files {
+        let report = file.hold(&Linked);
+        println!("{report}");
+        all_same &= report.differences.is_empty();
+    }
+    verdict(all_same)
+}
+
+/// The made cases and scripts.
+fn compare_made(arguments: &[String]) -> ExitCode {
     let mut seed = DEFAULT_SEED;
     let mut trace = false;
-    for argument in std::env::args().skip(1) {
-        match parse_seed(&argument) {
+    for argument in arguments {
+        match parse_seed(argument) {
             Some(number) => seed = number,
             None if argument == "--trace" => trace = true,
-            None => {
-                eprintln!("usage: compare [seed] [--trace]");
-                return ExitCode::from(2);
-            }
+            None => return usage(),
         }
     }
     println!("seed {seed}");
-    if compare_walks(seed, trace) && compare_scripts(seed, trace) {
+    verdict(compare_walks(seed, trace) && compare_scripts(seed, trace))
+}
+
+fn verdict(all_same: bool) -> ExitCode {
+    if all_same {
         ExitCode::SUCCESS
     } else {
-        ExitCode::from(1)
+        ExitCode::from(DIFFERENT)
+    }
+}
+
+fn usage() -> ExitCode {
+    eprintln!("usage: compare [seed] [--trace]");
+    eprintln!("       compare vectors FILE..");
+    ExitCode::from(UNUSABLE)
+}
+
+fn main() -> ExitCode {
+    let arguments: Vec<String> = std::env::args().skip(1).collect();
+    match arguments.split_first() {
+        Some((first, [])) if first == "vectors" => usage(),
+        Some((first, names)) if first == "vectors" => hold_vectors(names),
+        _ => compare_made(&arguments),
     }
 }

@@ -66,6 +66,10 @@ pub fn check(
     };
 
     demand(answer.tag <= REFUSED, "the tag is none of the three")?;
+    demand(
+        answer.tag == REFUSED || regime.ha || !regime.hd,
+        "walked with HD on and HA off",
+    )?;
     match expect {
         Expect::Anything => {}
         Expect::Walked => demand(answer.tag != REFUSED, "refused, with all at its limit")?,

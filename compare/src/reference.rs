@@ -1,8 +1,9 @@
 //! The second walker: stage 1, EL1&0, 4 KiB granule.
 //!
-//! It was written from document 01 of the customer and from nothing else, and
-//! shares nothing with the library or its bindings. The places cited are those
-//! of docs/RULES.md, which says the same in numbered sections.
+//! It was written from documents 01 and 02 of the customer and from
+//! nothing else, and shares nothing with the library or its bindings. The
+//! places cited are those of docs/RULES.md, which says the same in numbered
+//! sections.
 //!
 //! One loop goes down the levels and keeps the list of descriptor addresses;
 //! sums that could pass 2^64 are made in 128 bits.
@@ -400,15 +401,20 @@ pub fn settle(regime: &Regime, access: &Access, leaf: &Leaf, reads: u8) -> (Answ
 
 /// The plain walk: its refusals, its steps, its marks.
 pub fn walk(memory: &mut [u8], regime: &Regime, access: &Access) -> Walk {
-    let refusal = refusals::of_walk(memory.len(), regime, access);
-    let mut visited = Vec::with_capacity(4);
-    if let Some(number) = refusal {
-        return Walk {
+    match refusals::of_walk(memory.len(), regime, access) {
+        Some(number) => Walk {
             answer: Answer::Refused(number),
-            visited,
+            visited: Vec::new(),
             leaf: None,
-        };
+        },
+        None => walk_on(memory, regime, access),
     }
+}
+
+/// The steps and marks of a walk that is not refused. Rows 1, 3, 4, 6 and 7
+/// must not apply; under the others the regime is used as it is (RULES 10.5).
+pub fn walk_on(memory: &mut [u8], regime: &Regime, access: &Access) -> Walk {
+    let mut visited = Vec::with_capacity(4);
     let found = find_leaf(memory, regime, access.address, &mut visited);
     let reads = visited.len() as u8;
     match found {

@@ -7,8 +7,8 @@ use crate::reference::{
 };
 
 /// The rows of a call by their numbers, in its order (RULES 5.3).
-pub const WALK: &[u8] = &[1, 2, 3, 4, 5, 6, 7];
-pub const SET_REGIME: &[u8] = &[1, 2, 3, 4, 5];
+pub const WALK: &[u8] = &[1, 2, 3, 4, 5, 13, 6, 7];
+pub const SET_REGIME: &[u8] = &[1, 2, 3, 4, 5, 13];
 pub const ACCESS: &[u8] = &[9, 1, 6, 7];
 pub const STORE: &[u8] = &[9, 1, 8];
 
@@ -19,6 +19,14 @@ pub fn is_before(order: &[u8], row: u8, other: u8) -> bool {
         (Some(first), Some(second)) => first < second,
         _ => panic!("rows {row} and {other} are not both among {order:?}"),
     }
+}
+
+/// Every two rows of an order, each time the one that is looked at first and
+/// the other.
+pub fn pairs(order: &[u8]) -> impl Iterator<Item = (u8, u8)> + '_ {
+    let with_each = move |&row| order.iter().map(move |&other| (row, other));
+    let all = order.iter().flat_map(with_each);
+    all.filter(move |&(row, other)| is_before(order, row, other))
 }
 
 /// What the rows look at.
@@ -32,7 +40,7 @@ struct Asked<'a> {
     store: Option<u64>,
 }
 
-impl Asked<'_> {
+impl<'a> Asked<'a> {
     /// Nothing yet, over a memory of so many bytes.
     fn over(memory_length: usize) -> Self {
         Asked {
@@ -43,9 +51,30 @@ impl Asked<'_> {
         }
     }
 
+    fn walk(memory_length: usize, regime: &'a Regime, access: &'a Access) -> Self {
+        Asked {
+            regime: Some(regime),
+            access: Some(access),
+            ..Asked::over(memory_length)
+        }
+    }
+
+    fn set_regime(memory_length: usize, regime: &'a Regime) -> Self {
+        Asked {
+            regime: Some(regime),
+            ..Asked::over(memory_length)
+        }
+    }
+
+    /// The rows of an order that apply.
+    fn all_of(self, order: &'a [u8]) -> impl Iterator<Item = u8> + 'a {
+        let rows = order.iter().copied();
+        rows.filter(move |&row| self.applies(row))
+    }
+
     /// The first row of an order that applies.
-    fn first_of(&self, order: &[u8]) -> Option<u8> {
-        order.iter().copied().find(|&row| self.applies(row))
+    fn first_of(self, order: &'a [u8]) -> Option<u8> {
+        self.all_of(order).next()
     }
 
     fn applies(&self, row: u8) -> bool {
@@ -65,26 +94,32 @@ impl Asked<'_> {
                 _ => false,
             },
             9 => self.regime.is_none(),
+            13 => of_regime(row_13),
             _ => panic!("there is no row {row}"),
         }
     }
 }
 
 pub fn of_walk(memory_length: usize, regime: &Regime, access: &Access) -> Option<u8> {
-    let asked = Asked {
-        regime: Some(regime),
-        access: Some(access),
-        ..Asked::over(memory_length)
-    };
-    asked.first_of(WALK)
+    Asked::walk(memory_length, regime, access).first_of(WALK)
+}
+
+/// All rows that apply to a plain walk; the first is its refusal.
+pub fn all_of_walk<'a>(
+    memory_length: usize,
+    regime: &'a Regime,
+    access: &'a Access,
+) -> impl Iterator<Item = u8> + 'a {
+    Asked::walk(memory_length, regime, access).all_of(WALK)
 }
 
 pub fn of_set_regime(memory_length: usize, regime: &Regime) -> Option<u8> {
-    let asked = Asked {
-        regime: Some(regime),
-        ..Asked::over(memory_length)
-    };
-    asked.first_of(SET_REGIME)
+    Asked::set_regime(memory_length, regime).first_of(SET_REGIME)
+}
+
+/// All rows that apply to a set regime; the first is its refusal.
+pub fn all_of_set_regime(memory_length: usize, regime: &Regime) -> impl Iterator<Item = u8> + '_ {
+    Asked::set_regime(memory_length, regime).all_of(SET_REGIME)
 }
 
 /// In a session, by the regime that it has.
@@ -168,4 +203,9 @@ fn row_7(access: &Access) -> bool {
 /// A store's address.
 fn row_8(pool: &Pool, address: u64) -> bool {
     address & 7 != 0 || offset_in_memory(pool, address).is_none()
+}
+
+/// Dirty state management without that of the Access flag.
+fn row_13(regime: &Regime) -> bool {
+    regime.hd && !regime.ha
 }

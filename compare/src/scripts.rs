@@ -10,6 +10,7 @@ use crate::boundary::{Spelling, Subject};
 use crate::random::Random;
 use crate::session::Call;
 use calls::Script;
+pub(crate) use play::Arena;
 use play::Play;
 pub use tally::Tally;
 

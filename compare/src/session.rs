@@ -2,7 +2,7 @@
 //! of the second walker. A place is what RULES calls an entry.
 
 use crate::reference::{
-    offset_in_memory, read_descriptor, settle, walk, write_descriptor, Access, Answer, Leaf,
+    offset_in_memory, read_descriptor, settle, walk_on, write_descriptor, Access, Answer, Leaf,
     Regime, Walk, GRANULE,
 };
 use crate::refusals;
@@ -89,7 +89,7 @@ impl Session {
             }
         }
 
-        let walk = walk(memory, &regime, access);
+        let walk = walk_on(memory, &regime, access);
         let rememberable = match walk.answer {
             Answer::Success(success) => success.rememberable,
             Answer::Fault(fault) => fault.rememberable,

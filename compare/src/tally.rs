@@ -8,7 +8,7 @@ use crate::reference::{
     bit, first_level, is_device, leaf_address, offset_in_memory, output_limit, read_descriptor,
     Access, Answer, FaultKind, Kind, Leaf, Regime, Walk, ADDRESS_FIELD, GRANULE, MEMORY_LIMIT,
 };
-use crate::refusals::WALK;
+use crate::refusals::{all_of_walk, pairs, WALK};
 use std::collections::{BTreeMap, BTreeSet};
 use std::fmt;
 
@@ -62,6 +62,8 @@ pub enum Place {
 pub enum Feature {
     Tag(u8),
     Refusal(u8),
+    /// A refusal, and a later row that applies too.
+    FirstRow(u8, u8),
     Code(u16),
     /// A fault of RULES 6.1, which reads nothing.
     AtOnce(FaultKind),
@@ -97,6 +99,7 @@ impl Countable for Feature {
         match self {
             F::Tag(_) => "answers",
             F::Refusal(_) => "refusals",
+            F::FirstRow(..) => "refusals before another row that applies",
             F::Code(_) => "fault codes",
             F::AtOnce(_) => "faults before any read",
             F::Fault(..) => "faults by first level > level",
@@ -152,6 +155,7 @@ impl fmt::Display for Feature {
         match *self {
             F::Tag(tag) => write!(out, "{}", tag_name(tag)),
             F::Refusal(number) => write!(out, "no. {number}"),
+            F::FirstRow(number, other) => write!(out, "{number} before {other}"),
             F::Code(code) => write!(out, "code {code}"),
             F::AtOnce(kind) => write!(out, "{kind:?}"),
             F::Fault(kind, first, level) => write!(out, "{kind:?} {first}>{level}"),
@@ -187,6 +191,7 @@ fn possible() -> BTreeSet<Feature> {
     let mut all = BTreeSet::new();
     all.extend([SUCCESS, FAULT, REFUSED].map(F::Tag));
     all.extend(WALK.iter().copied().map(F::Refusal));
+    all.extend(pairs(WALK).map(|(row, other)| F::FirstRow(row, other)));
 
     // Two faults come before any read; leaves are at levels 1 to 3 only.
     all.insert(F::AtOnce(FaultKind::Translation));
@@ -320,7 +325,7 @@ impl Tally {
         *self.families.entry(case.family).or_default() += 1;
         self.meet(F::Tag(answer.tag));
         if answer.tag == REFUSED {
-            return self.meet(F::Refusal(answer.refusal));
+            return self.note_refusal(before.len(), regime, access, answer.refusal);
         }
         if answer.tag == FAULT {
             self.meet(F::Code(answer.code));
@@ -363,6 +368,13 @@ impl Tally {
                 }
                 self.note_fault(regime, range, before, walk, kind);
             }
+        }
+    }
+
+    fn note_refusal(&mut self, length: usize, regime: &Regime, access: &Access, number: u8) {
+        self.meet(F::Refusal(number));
+        for other in all_of_walk(length, regime, access).skip(1) {
+            self.meet(F::FirstRow(number, other));
         }
     }
 

@@ -5,6 +5,7 @@ mod refusals;
 mod rule3;
 mod session;
 mod spare;
+mod vectors;
 
 use crate::boundary::plain_answer;
 use crate::cases::{run_all, Case, Runner};
@@ -147,11 +148,28 @@ fn p4_hd_off() {
 }
 
 #[test]
-fn p5_ha_off() {
+fn p5_ha_and_hd_off() {
     let (mut memory, mut regime) = start();
-    regime.ha = false;
+    (regime.ha, regime.hd) = (false, false);
     let walk = go(&mut memory, &regime, &access(Kind::Write));
     assert_eq!(fault(&walk), (11, 3, false, 4));
+    assert_eq!(read_descriptor(&memory, LEAF_OFFSET), LEAF);
+}
+
+#[test]
+fn p5_ha_alone_off() {
+    let (mut memory, mut regime) = start();
+    regime.ha = false;
+    for kind in Kind::ALL {
+        let size = if kind.is_probe() { 1 } else { 4 };
+        let asked = Access {
+            size,
+            ..access(kind)
+        };
+        let walk = go(&mut memory, &regime, &asked);
+        assert_eq!(walk.answer, Answer::Refused(13), "{kind:?}");
+        assert_eq!(walk.visited, []);
+    }
     assert_eq!(read_descriptor(&memory, LEAF_OFFSET), LEAF);
 }
 

@@ -276,3 +276,37 @@ pub(crate) fn accepted(number: u8) -> Result<(), Refusal> {
         _ => Err(Refusal::from_number(number).expect(OUTSIDE)),
     }
 }
+
+#[cfg(test)]
+mod tests {
+    use super::*;
+
+    /// A number that no library gives.
+    const UNKNOWN: u8 = u8::MAX;
+
+    #[test]
+    fn each_number_is_its_refusal() {
+        assert_eq!(accepted(0), Ok(()));
+        for number in 0..=u8::MAX {
+            let mut refusals = Refusal::ALL.iter().copied();
+            let expected = refusals.find(|refusal| refusal.number() == number);
+            assert_eq!(Refusal::from_number(number), expected);
+        }
+    }
+
+    #[test]
+    #[should_panic(expected = "does not have this crate's interface")]
+    fn reply_with_an_unknown_number() {
+        let _ = accepted(UNKNOWN);
+    }
+
+    #[test]
+    #[should_panic(expected = "does not have this crate's interface")]
+    fn answer_with_an_unknown_number() {
+        let _ = Answer::from(ffi::Answer {
+            tag: 2,
+            refusal: UNKNOWN,
+            ..ffi::Answer::default()
+        });
+    }
+}

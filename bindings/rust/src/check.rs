@@ -25,7 +25,8 @@ pub(crate) fn of_regime(regime: &Regime, memory: usize) -> Checked {
     root(0, regime.range0.root)?;
     root(1, regime.range1.root)?;
     let mut bytes = regime.attributes.into_iter().enumerate();
-    bytes.try_for_each(|(index, byte)| attribute(index, byte))
+    bytes.try_for_each(|(index, byte)| attribute(index, byte))?;
+    dirty_state(regime)
 }
 
 /// What an access is checked for by itself, in its order.
@@ -103,6 +104,14 @@ fn attribute(index: usize, byte: u8) -> Checked {
     } else {
         Err(Problem::AttributeByte { index, byte })
     }
+}
+
+/// Refusal 13.
+fn dirty_state(regime: &Regime) -> Checked {
+    if regime.hd && !regime.ha {
+        return Err(Problem::HdWithoutHa);
+    }
+    Ok(())
 }
 
 /// Refusal 6.

@@ -59,6 +59,7 @@
 //!
 //! - Top-byte-ignore (TCR_EL1.TBI0, TBI1) and tagged addresses
 //! - 52-bit addresses (FEAT_LPA, FEAT_LPA2)
+//! - Dirty state management without that of the Access flag (TCR_EL1.HD 1, HA 0)
 //! - Attribute byte 0xF0 (FEAT_MTE2), and those of FEAT_XS with one half zero
 //! - PAN and EPAN; E0PD0, E0PD1, NFD0 and NFD1
 //! - The Contiguous bit
@@ -166,7 +167,7 @@ pub const MEMORY_LIMIT: usize = 1_048_576;
 pub const POOL_LIMIT: usize = 65_536;
 
 /// The version of the C interface that this crate speaks.
-pub const VERSION: u32 = 4;
+pub const VERSION: u32 = 5;
 
 /// The version of the library that is linked in; to be [`VERSION`].
 pub fn version() -> u32 {

@@ -12,8 +12,10 @@ use crate::{PhysAddr, Refusal, VirtAddr, MEMORY_LIMIT, POOL_LIMIT};
 /// [`Access::check`](crate::Access::check) find it, and its words name the
 /// value and the limit. They stand beside the library, which decides: they are
 /// not proved, but tested to find a problem exactly where the library refuses,
-/// with the same number. Of several causes they name the first, in the order
-/// of `docs/RULES.md`, 5.1; of the two ranges, range 0 comes first.
+/// with the same number. Of several refusals they take the first, in the order
+/// that [`Refusal`] has, and of its causes the first in the order of
+/// `docs/RULES.md`, 5.1; of the two ranges, range 0 comes first. Later versions
+/// add causes, so a match needs a wildcard arm.
 ///
 /// ```
 /// use vmsa::{PhysAddr, Pool, Problem, Refusal, Regime};
@@ -101,6 +103,8 @@ pub enum Problem {
         /// The byte.
         byte: u8,
     },
+    /// HD is on and HA is off.
+    HdWithoutHa,
     /// The size is not 1, 2, 4, 8 or 16.
     Size {
         /// The size.
@@ -146,6 +150,7 @@ impl Problem {
             Self::TszOutOfBounds { .. } => Refusal::Sizes,
             Self::RootUnaligned { .. } | Self::RootTooHigh { .. } => Refusal::Root,
             Self::AttributeByte { .. } => Refusal::Attributes,
+            Self::HdWithoutHa => Refusal::DirtyState,
             Self::Size { .. }
             | Self::FetchSize { .. }
             | Self::FetchUnaligned { .. }
@@ -207,6 +212,7 @@ impl fmt::Display for Problem {
                 "attribute byte {index}, {byte:#04x}, is neither Device (0x00, 0x04, 0x08, 0x0c) \
                  nor Normal (both halves nonzero)"
             ),
+            Self::HdWithoutHa => f.write_str("HD is on and HA, which it needs, is off"),
             Self::Size { size } => write!(f, "the size, {size}, is not 1, 2, 4, 8 or 16"),
             Self::FetchSize { size } => write!(f, "the size of a fetch, {size}, is not 4"),
             Self::FetchUnaligned { address } => {

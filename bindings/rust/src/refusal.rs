@@ -18,7 +18,7 @@ macro_rules! refusals {
 
         impl $refusal {
             /// Every refusal, in the order of the numbers.
-            pub const ALL: [Self; [$($number),+].len()] = [$(Self::$name),+];
+            pub const ALL: &'static [Self] = &[$(Self::$name),+];
 
             /// The number.
             pub const fn number(self) -> u8 {
@@ -50,8 +50,8 @@ refusals! {
     ///
     /// | Call | Checks, in this order |
     /// |---|---|
-    /// | [`walk`](crate::walk()) | 1, 2, 3, 4, 5, 6, 7 |
-    /// | [`Session::set_regime`](crate::Session::set_regime) | 1, 2, 3, 4, 5 |
+    /// | [`walk`](crate::walk()) | 1, 2, 3, 4, 5, 13, 6, 7 |
+    /// | [`Session::set_regime`](crate::Session::set_regime) | 1, 2, 3, 4, 5, 13 |
     /// | [`Session::access`](crate::Session::access) | 9, 1, 6, 7 |
     /// | [`Session::store`](crate::Session::store) | 9, 1, 8 |
     /// | [`Session::invalidate_all`](crate::Session::invalidate_all) | none |
@@ -59,6 +59,10 @@ refusals! {
     /// Most numbers stand for several causes: [`Regime::check`] and
     /// [`Access::check`] tell them apart. `docs/RULES.md`, section 5, has all
     /// of this.
+    ///
+    /// Later versions add numbers, so a match needs a wildcard arm. A library
+    /// of this crate's [`VERSION`](crate::VERSION) gives no number but these;
+    /// where one of another version is linked and does, the call panics.
     ///
     /// [`Regime::check`]: crate::Regime::check
     /// [`Access::check`]: crate::Access::check
@@ -71,8 +75,20 @@ refusals! {
     ///     Refusal::PageCrossing.to_string(),
     ///     "refused with 7: the access crosses a page boundary",
     /// );
+    ///
+    /// /// What of a monitor has to be mended.
+    /// fn place(refusal: Refusal) -> &'static str {
+    ///     match refusal {
+    ///         Refusal::AccessSize | Refusal::PageCrossing => "access",
+    ///         Refusal::StoreAddress => "store",
+    ///         Refusal::NoRegime => "order of calls",
+    ///         _ => "regime or memory",
+    ///     }
+    /// }
+    /// assert_eq!(place(Refusal::DirtyState), "regime or memory");
     /// ```
     #[derive(Clone, Copy, Debug, PartialEq, Eq, Hash)]
+    #[non_exhaustive]
     enum Refusal;
 
     /// 1: memory above its limit; pool start or length not a multiple of
@@ -106,6 +122,9 @@ refusals! {
 
     /// 9: the session has no regime yet.
     NoRegime = 9: "the session has no regime";
+
+    /// 13: HD is on and HA is off, so that no page would be marked dirty.
+    DirtyState = 13: "HD is on and HA is off";
 }
 
 impl fmt::Display for Refusal {

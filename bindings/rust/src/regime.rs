@@ -159,7 +159,8 @@ pub struct Regime {
     pub output: OutputSize,
     /// Whether walks set the Access flag.
     pub ha: bool,
-    /// Whether walks mark pages dirty. It counts only where `ha` is set.
+    /// Whether walks mark pages dirty. This needs `ha`: without it the regime
+    /// is refused with [`Refusal::DirtyState`](crate::Refusal::DirtyState).
     pub hd: bool,
     /// Whether writable pages are execute-never.
     pub wxn: bool,
@@ -213,7 +214,21 @@ impl Regime {
         self
     }
 
-    /// Switches the marking of dirty pages.
+    /// Switches the marking of dirty pages, which needs [`ha`](Self::ha).
+    ///
+    /// ```
+    /// use vmsa::{PhysAddr, Pool, Problem, Regime};
+    ///
+    /// let pool = Pool::new(0, 0x1000, PhysAddr(0x4000_0000));
+    /// let regime = Regime::new().pool(pool).hd(true);
+    /// let problem = regime.check(0x1000).unwrap_err();
+    /// assert_eq!(problem, Problem::HdWithoutHa);
+    /// assert_eq!(
+    ///     problem.to_string(),
+    ///     "refused with 13: HD is on and HA, which it needs, is off",
+    /// );
+    /// assert_eq!(regime.ha(true).check(0x1000), Ok(()));
+    /// ```
     pub const fn hd(mut self, hd: bool) -> Self {
         self.hd = hd;
         self

@@ -91,7 +91,16 @@ fn p5_ha_off() {
         cacheable: false,
         reads: 4,
     };
-    assert_eq!(fault(&memory(), &regime().ha(false), &write()), expected);
+    let regime = regime().ha(false);
+    assert_eq!(fault(&memory(), &regime.hd(false), &write()), expected);
+
+    let mut memory = memory();
+    let before = memory.clone();
+    assert_eq!(
+        walk(&mut memory, &regime, &write()),
+        Err(Stop::Refused(Refusal::DirtyState))
+    );
+    assert!(memory == before);
 }
 
 #[test]

@@ -218,13 +218,17 @@ fn updates() {
     for (ha, hd, read_code, write_code) in [
         (true, true, None, None),
         (true, false, None, Some(15)),
-        (false, true, Some(11), Some(11)),
         (false, false, Some(11), Some(11)),
     ] {
         let regime = regime().ha(ha).hd(hd);
         let answer = |access| ask(&memory, &regime, &access).err().map(stop);
         assert_eq!(answer(read()), read_code);
         assert_eq!(answer(write()), write_code);
+    }
+    let alone = regime().ha(false).hd(true);
+    for access in [read(), write()] {
+        let refusal = refusal(ask(&memory, &alone, &access));
+        assert_eq!(refusal, Refusal::DirtyState);
     }
 }
 
@@ -376,7 +380,7 @@ fn answer_of_a_success() {
     // A block of level 1 with everything set, and a page with nothing.
     let mut memory = memory();
     let attributes = [0x11, 0x22, 0x33, 0x44, 0x55, 0x66, 0x77, 0x88];
-    let regime = regime().attributes(attributes).ha(false);
+    let regime = regime().attributes(attributes).ha(false).hd(false);
     for (i, shareability) in [
         Shareability::NonShareable,
         Shareability::Reserved,
@@ -407,7 +411,7 @@ fn answer_of_a_success() {
         assert_eq!(ask(&memory, &regime, &access), Ok(expected));
     }
 
-    let regime = regime.ha(true);
+    let regime = regime.ha(true).hd(true);
     let page = tables::memory();
     let expected = Translation {
         output: PhysAddr(0x8000_5abc),
@@ -491,6 +495,7 @@ fn answer_of_a_fault() {
         memory
     };
     let small = regime().output(OutputSize::Bits32);
+    let no_updates = regime().ha(false).hd(false);
     let device = regime().attribute(0, 0x08);
     let unaligned = Access::read(VirtAddr(0x40_3abd), 2).el0();
 
@@ -520,7 +525,7 @@ fn answer_of_a_fault() {
         check_fault(answer, expected, ABORT);
 
         let leaf = if level == 3 { 3 } else { 1 };
-        let answer = ask(&with(level, leaf), &regime().ha(false), &read());
+        let answer = ask(&with(level, leaf), &no_updates, &read());
         let expected = fault(FaultKind::AccessFlag, 8 + add, false);
         check_fault(answer, expected, FLAG);
 
@@ -552,6 +557,7 @@ fn answer_of_a_refusal() {
         (root(POOL + 8), read(), 4),
         (root(1 << 48), read(), 4),
         (regime().attribute(7, 0x0f), read(), 5),
+        (regime().ha(false), read(), 13),
         (regime(), Access::read(ADDRESS, 3), 6),
         (regime(), Access::new(AccessKind::ProbeRead, ADDRESS, 2), 6),
         (regime(), Access::fetch(VirtAddr(0x40_3abe)), 6),

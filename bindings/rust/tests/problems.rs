@@ -90,7 +90,7 @@ impl Library {
 
 /// Each cause, in the order in which they are looked for: a change that makes
 /// it, whatever else was changed, and the words behind the number.
-const CAUSES: [(Change, Refusal, &str); 20] = [
+const CAUSES: [(Change, Refusal, &str); 21] = [
     (
         |q| q.memory = MEMORY_LIMIT + 1,
         Refusal::MemoryPool,
@@ -166,6 +166,11 @@ const CAUSES: [(Change, Refusal, &str); 20] = [
         Refusal::Attributes,
         "attribute byte 3, 0xf0, is neither Device (0x00, 0x04, 0x08, 0x0c) \
          nor Normal (both halves nonzero)",
+    ),
+    (
+        |q| q.regime.ha = false,
+        Refusal::DirtyState,
+        "HD is on and HA, which it needs, is off",
     ),
     (
         |q| q.access.size = 3,
@@ -256,7 +261,7 @@ fn the_first_of_two() {
 }
 
 /// Changes up to a limit, which make no problem, and one step past it.
-const LIMITS: [(Change, bool); 40] = [
+const LIMITS: [(Change, bool); 43] = [
     (|q| q.memory = MEMORY_LIMIT, true),
     (|q| q.memory = MEMORY_LIMIT + 1, false),
     (|q| q.memory = POOL_LIMIT, true),
@@ -324,6 +329,9 @@ const LIMITS: [(Change, bool); 40] = [
     (|q| q.regime.range0.root = PhysAddr(TOP - 1), false),
     (|q| q.regime.range1.root = PhysAddr(TOP - 0x1000), true),
     (|q| q.regime.range1.root = PhysAddr(u64::MAX - 0xfff), false),
+    (|q| q.regime.hd = false, true),
+    (|q| q.regime.ha = false, false),
+    (|q| (q.regime.ha, q.regime.hd) = (false, false), true),
     (|q| q.access = Access::read(VirtAddr(u64::MAX), 1), true),
     (|q| q.access = Access::read(VirtAddr(u64::MAX), 2), false),
     (
@@ -396,7 +404,7 @@ fn change(question: &mut Question, random: &mut Random) {
     let number = edge(random);
     let regime = &mut question.regime;
     let tsz = random.pick(&[0, 15, 16, 25, 39, 40, number as u8]);
-    match random.below(14) {
+    match random.below(15) {
         0 => question.memory = number as usize % (MEMORY_LIMIT + 4096),
         1 => regime.pool.start = number as usize,
         2 => regime.pool.length = number as usize,
@@ -415,6 +423,10 @@ fn change(question: &mut Question, random: &mut Random) {
             question.memory = MEMORY_LIMIT - random.below(3) as usize;
             regime.pool.length = pages << 12;
             regime.pool.start = MEMORY_LIMIT - (pages << 12);
+        }
+        13 => {
+            regime.ha = random.below(2) == 0;
+            regime.hd = random.below(2) == 0;
         }
         _ => {
             regime.range0.disabled = random.below(2) == 0;
@@ -467,6 +479,7 @@ fn has(question: &Question, problem: Problem) -> bool {
         Problem::AttributeByte { index, byte } => {
             byte == regime.attributes[index] && (byte & 0xf == 0 || byte < 0x10) && byte & !0xc != 0
         }
+        Problem::HdWithoutHa => regime.hd && !regime.ha,
         Problem::Size { size } => size == access.size && (size.count_ones() != 1 || size > 16),
         Problem::FetchSize { size } => fetch && size == access.size && size != 4,
         Problem::FetchUnaligned { address } => {

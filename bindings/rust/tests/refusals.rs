@@ -18,7 +18,7 @@ type Change = fn(&mut Question);
 
 /// Each refusal with its number (`docs/RULES.md`, 5.1), and a change that makes
 /// it apply, whatever else was changed.
-const REFUSALS: [(Refusal, u8, Change); 9] = [
+const REFUSALS: &[(Refusal, u8, Change)] = &[
     (Refusal::MemoryPool, 1, |question| question.lent = 0xffff),
     (Refusal::PoolAddress, 2, |question| {
         question.regime.pool.address = PhysAddr(POOL + 8);
@@ -40,6 +40,9 @@ const REFUSALS: [(Refusal, u8, Change); 9] = [
         question.store = PhysAddr(POOL + 0x10000);
     }),
     (Refusal::NoRegime, 9, |question| question.set = false),
+    (Refusal::DirtyState, 13, |question| {
+        question.regime.ha = false;
+    }),
 ];
 
 /// A call: the refusal it gives, if any.
@@ -56,6 +59,7 @@ const ORDERS: [(Call, &[Refusal]); 4] = [
             Refusal::Sizes,
             Refusal::Root,
             Refusal::Attributes,
+            Refusal::DirtyState,
             Refusal::AccessSize,
             Refusal::PageCrossing,
         ],
@@ -68,6 +72,7 @@ const ORDERS: [(Call, &[Refusal]); 4] = [
             Refusal::Sizes,
             Refusal::Root,
             Refusal::Attributes,
+            Refusal::DirtyState,
         ],
     ),
     (
@@ -143,18 +148,16 @@ fn spoilt(refusals: &[Refusal]) -> Question {
 
 #[test]
 fn numbers() {
-    let found = Refusal::ALL.map(|refusal| (refusal, refusal.number()));
-    assert_eq!(
-        found,
-        REFUSALS.map(|(refusal, number, _)| (refusal, number))
-    );
+    let found = Refusal::ALL.iter().map(|of| (*of, of.number()));
+    let expected = REFUSALS.iter().map(|&(of, number, _)| (of, number));
+    assert_eq!(found.collect::<Vec<_>>(), expected.collect::<Vec<_>>());
 }
 
 #[test]
 fn each_alone() {
     for (call, order) in ORDERS {
         assert_eq!(call(&question()), None);
-        for refusal in Refusal::ALL {
+        for &refusal in Refusal::ALL {
             let expected = order.contains(&refusal).then_some(refusal);
             assert_eq!(call(&spoilt(&[refusal])), expected, "{refusal:?}");
         }
@@ -191,5 +194,18 @@ fn a_disabled_range_is_checked() {
             assert_eq!(walk(&question), Some(refusal));
             assert_eq!(set_regime(&question), Some(refusal));
         }
+    }
+}
+
+#[test]
+fn dirty_state() {
+    for (ha, hd) in [(false, false), (false, true), (true, false), (true, true)] {
+        let question = Question {
+            regime: regime().ha(ha).hd(hd),
+            ..question()
+        };
+        let expected = (hd && !ha).then_some(Refusal::DirtyState);
+        assert_eq!(walk(&question), expected, "{ha}, {hd}");
+        assert_eq!(set_regime(&question), expected, "{ha}, {hd}");
     }
 }

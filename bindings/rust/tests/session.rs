@@ -102,8 +102,12 @@ fn script() {
 
     // Refused calls change neither memory nor session.
     let before = (session.clone(), memory.clone());
-    let bad = regime().attribute(3, 0x01);
-    assert_eq!(session.set_regime(&memory, &bad), Err(Refusal::Attributes));
+    for (bad, refusal) in [
+        (regime().attribute(3, 0x01), Refusal::Attributes),
+        (regime().ha(false), Refusal::DirtyState),
+    ] {
+        assert_eq!(session.set_regime(&memory, &bad), Err(refusal));
+    }
     for (access, refusal) in [
         (Access::read(ADDRESS, 5), Refusal::AccessSize),
         (Access::read(VirtAddr(0xfff), 2), Refusal::PageCrossing),
@@ -200,6 +204,17 @@ fn descriptor(random: &mut Random) -> u64 {
     }
 }
 
+/// HA and HD; now and then HD alone, which is refused.
+fn updates(random: &mut Random) -> (bool, bool) {
+    let ha = random.below(4) != 0;
+    let hd = if ha {
+        random.below(4) != 0
+    } else {
+        random.below(16) == 0
+    };
+    (ha, hd)
+}
+
 #[test]
 fn as_the_plain_walk() {
     let mut random = Random(0x9e37_79b9_7f4a_7c15);
@@ -224,12 +239,13 @@ fn as_the_plain_walk() {
                 0 => {
                     let tsz = random.pick(&[16, 20, 25, 34, 36, 39, 15]);
                     let range = Range::new(PhysAddr(POOL + 0x1000 * random.below(16)), tsz);
+                    let (ha, hd) = updates(&mut random);
                     let next = regime()
                         .pool(Pool::new(0x1000, 0x10000, PhysAddr(POOL)))
                         .range0(range)
                         .range1(range)
-                        .ha(random.below(4) != 0)
-                        .hd(random.below(4) != 0)
+                        .ha(ha)
+                        .hd(hd)
                         .wxn(random.below(4) == 0)
                         .attribute(random.below(8) as usize, 0x04);
                     if session.set_regime(&memory, &next).is_ok() {

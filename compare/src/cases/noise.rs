@@ -1,6 +1,6 @@
 //! Pools without a plan.
 
-use super::scene::{draw_access, draw_granules, Placement};
+use super::scene::{draw_access, draw_granules, Placement, HD_ALONE};
 use super::Maker;
 use crate::promises::Expect;
 
@@ -34,11 +34,21 @@ pub fn run(maker: &mut Maker) {
             _ => {}
         }
         for _ in 0..4 {
-            let address = draw_address(maker);
-            let access = draw_access(&mut maker.random, address);
-            maker.ask(FAMILY, &access, Expect::Walked);
+            ask(maker, Expect::Walked);
+        }
+        // The same tables under a regime that is refused.
+        if maker.random.once_in(8) {
+            let regime = &mut maker.scene.regime;
+            (regime.ha, regime.hd) = HD_ALONE;
+            ask(maker, Expect::Refused(13));
         }
     }
+}
+
+fn ask(maker: &mut Maker, expect: Expect) {
+    let address = draw_address(maker);
+    let access = draw_access(&mut maker.random, address);
+    maker.ask(FAMILY, &access, expect);
 }
 
 /// Mostly an address within one of the two ranges.

@@ -1,7 +1,7 @@
 //! The refusals of a plain walk: each row (RULES 5.1) at its limit, one past
 //! it, and in pairs, where the row that is looked at first must be given.
 
-use super::scene::{draw_leaf, Placement, Scene};
+use super::scene::{draw_leaf, Placement, Scene, HD_ALONE, UPDATES};
 use super::Maker;
 use crate::promises::Expect;
 use crate::random::Random;
@@ -47,6 +47,7 @@ pub fn run(maker: &mut Maker) {
     pool_address(&mut changes);
     sizes_and_code(&mut changes);
     roots_and_attributes(&mut changes);
+    updates(&mut changes);
     access_size(&mut changes);
     page_crossing(&mut changes);
 
@@ -338,6 +339,18 @@ fn roots_and_attributes(changes: &mut Changes) {
         changes.limit(move |question, random| {
             question.scene.regime.attributes[random.below(8) as usize] = byte;
         });
+    }
+}
+
+/// Row 13.
+fn updates(changes: &mut Changes) {
+    let set = |question: &mut Question, updates| {
+        let regime = &mut question.scene.regime;
+        (regime.ha, regime.hd) = updates;
+    };
+    changes.past(13, move |question, _| set(question, HD_ALONE));
+    for updates in UPDATES {
+        changes.limit(move |question, _| set(question, updates));
     }
 }
 

@@ -1,14 +1,14 @@
 //! Every combination of permission bits, dirty state and controls, crossed
 //! with every kind of access, at every leaf level.
 
-use super::scene::{draw_device, draw_granules, draw_normal, Placement};
+use super::scene::{draw_device, draw_granules, draw_normal, Placement, UPDATES};
 use super::Maker;
 use crate::promises::Expect;
 use crate::reference::{Access, Kind, ADDRESS_FIELD, AF, AP1, AP2, DBM, GRANULE, PXN, UXN};
 
 const FAMILY: &str = "rights";
 
-/// The leaf bits that are crossed; HA, HD and WXN come on top.
+/// The leaf bits that are crossed; WXN, and HA with HD, come on top.
 const LEAF_BITS: [u32; 6] = [AP1, AP2, AF, DBM, PXN, UXN];
 
 struct Choice {
@@ -54,8 +54,9 @@ fn ask(maker: &mut Maker, choice: &Choice) {
     let highest = if choice.level == 1 { 33 } else { 39 };
     scene.regime.ranges[range].t = random.between(16, highest) as u8;
     scene.regime.ranges[range].disabled = false;
-    scene.regime.ha = choice.bits & 1 != 0;
-    scene.regime.hd = choice.bits & 2 != 0;
+    // Of the four numbers two are for both on, which has the most to do.
+    let updates = (choice.bits & 3) as usize;
+    (scene.regime.ha, scene.regime.hd) = UPDATES[updates.min(UPDATES.len() - 1)];
     scene.regime.wxn = choice.bits & 4 != 0;
 
     let index = random.below(8);

@@ -7,6 +7,11 @@ use crate::reference::{
     ADDRESS_FIELD, AF, AP1, AP2, GRANULE, MEMORY_LIMIT, PHYSICAL_LIMIT,
 };
 
+/// HA and HD as they may stand together (RULES 5.1, row 13).
+pub const UPDATES: [(bool, bool); 3] = [(false, false), (true, false), (true, true)];
+/// HA and HD as they may not.
+pub const HD_ALONE: (bool, bool) = (false, true);
+
 /// Where the pool lies against the first address beyond the output size.
 #[derive(Clone, Copy, Debug, PartialEq, Eq)]
 pub enum Placement {
@@ -54,6 +59,14 @@ pub fn draw_device(random: &mut Random) -> u8 {
 /// A byte with both halves nonzero.
 pub fn draw_normal(random: &mut Random) -> u8 {
     (random.between(1, 15) << 4 | random.between(1, 15)) as u8
+}
+
+/// HA, off once in so many times; and HD, which asks for HA and is then off
+/// as often.
+pub fn draw_updates(random: &mut Random, off_once_in: u64) -> (bool, bool) {
+    let ha = !random.once_in(off_once_in);
+    let hd = !random.once_in(off_once_in);
+    (ha, ha && hd)
 }
 
 fn draw_size(random: &mut Random, kind: Kind) -> u64 {
@@ -201,8 +214,7 @@ impl Scene {
             address,
         };
         self.regime.output_code = code;
-        self.regime.ha = random.coin();
-        self.regime.hd = random.coin();
+        (self.regime.ha, self.regime.hd) = draw_updates(random, 2);
         self.regime.wxn = random.coin();
         for byte in &mut self.regime.attributes {
             *byte = if random.once_in(3) {

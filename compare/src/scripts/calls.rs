@@ -3,7 +3,7 @@
 use super::world::{draw_usable_leaf, lead_to, set_bit, vary, Leaves, World};
 use super::Step;
 use crate::boundary::Spelling;
-use crate::cases::scene::{draw_access, draw_access_of, draw_table};
+use crate::cases::scene::{draw_access, draw_access_of, draw_table, HD_ALONE};
 use crate::random::Random;
 use crate::reference::{
     find_leaf, is_device, offset_in_memory, output_limit, read_descriptor, writable_clean, Access,
@@ -297,25 +297,39 @@ impl Script {
         access
     }
 
-    /// Home mostly, with the length it needs.
+    /// Home mostly, with the length it needs; seldom with HD on and HA off.
     fn draw_regime(&mut self) -> (Call, Option<usize>) {
+        let home = self.world.regimes[0];
         let random = &mut self.random;
         match self.world.far {
+            _ if random.once_in(24) => {
+                let (ha, hd) = HD_ALONE;
+                (Call::SetRegime(Regime { ha, hd, ..home }), None)
+            }
             Some(far) if random.once_in(6) => (Call::SetRegime(far), Some(self.world.memory.len())),
             _ if random.once_in(3) => {
                 let some = random.pick(&self.world.regimes);
                 (Call::SetRegime(some), None)
             }
-            _ => (Call::SetRegime(self.world.regimes[0]), None),
+            _ => (Call::SetRegime(home), None),
         }
     }
 
-    /// A regime to which a row applies, and which differs from home in more
-    /// than that.
+    /// A regime to which a row applies, at times two, and which differs from
+    /// home in more than that.
     fn draw_bad_regime(&mut self) -> Regime {
         let home = self.world.regimes[0];
+        let mut regime = vary(&mut self.random, &home);
+        self.spoil(&mut regime);
+        if self.random.once_in(4) {
+            self.spoil(&mut regime);
+        }
+        regime
+    }
+
+    /// Makes some row apply.
+    fn spoil(&mut self, regime: &mut Regime) {
         let random = &mut self.random;
-        let mut regime = vary(random, &home);
         let range = random.below(2) as usize;
         let pool = &mut regime.pool;
         match random.pick(SET_REGIME) {
@@ -345,9 +359,9 @@ impl Script {
                 let byte = random.pick(&[0x01, 0x0F, 0x10, 0x40, 0xF0]);
                 regime.attributes[random.below(8) as usize] = byte;
             }
+            13 => (regime.ha, regime.hd) = HD_ALONE,
             row => panic!("no regime is made for row {row}"),
         }
-        regime
     }
 
     fn draw_store(&mut self, session: &Session, memory: &[u8]) -> Call {

@@ -4,7 +4,7 @@ use super::play::Bytes;
 use crate::boundary::{FAULT, SUCCESS};
 use crate::counts::Countable;
 use crate::reference::{FaultKind, Kind};
-use crate::refusals::{ACCESS, SET_REGIME, STORE};
+use crate::refusals::{pairs, ACCESS, SET_REGIME, STORE};
 use crate::rule3::Class;
 use crate::session::PLACES;
 use crate::tally::{level_name, End};
@@ -125,6 +125,8 @@ pub enum Feature {
     Sum(Sum),
     /// Reply to set regime, and whether a regime stood.
     SetRegime(bool, u8),
+    /// A refusal of set regime, and a later row that applies too.
+    FirstRow(u8, u8),
     Switch(Switch),
     Store(u8),
     Into(Target),
@@ -168,6 +170,7 @@ impl fmt::Display for Feature {
             F::Sum(sum) => write!(out, "{sum:?}"),
             F::SetRegime(stood, 0) => write!(out, "{} accepted", yes(stood)),
             F::SetRegime(stood, number) => write!(out, "{} no. {number}", yes(stood)),
+            F::FirstRow(number, other) => write!(out, "{number} before {other}"),
             F::Switch(switch) => write!(out, "{switch:?}"),
             F::Store(0) => write!(out, "accepted"),
             F::Store(number) | F::Refused(number) | F::RefusedHeld(number) => {
@@ -205,6 +208,7 @@ impl Countable for Feature {
         match self {
             F::Sum(_) => "session",
             F::SetRegime(..) => "set regime, with and without one before",
+            F::FirstRow(..) => "set regime refused before another row that applies",
             F::Switch(_) => "regimes accepted",
             F::Store(_) => "stores",
             F::Into(_) => "stores accepted into",
@@ -267,6 +271,7 @@ fn replies(all: &mut BTreeSet<Feature>) {
         all.insert(F::SetRegime(stood, 0));
         all.extend(SET_REGIME.iter().map(|&row| F::SetRegime(stood, row)));
     }
+    all.extend(pairs(SET_REGIME).map(|(row, other)| F::FirstRow(row, other)));
     all.extend(
         [
             Switch::First,

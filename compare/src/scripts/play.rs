@@ -45,15 +45,15 @@ impl Bytes {
 const MARGIN: usize = 64;
 const MARGIN_BYTE: u8 = 0xA5;
 
-/// The memory of the session under test, between its margins.
-struct Arena {
+/// The memory of the one under test, between its margins.
+pub struct Arena {
     bytes: Vec<u8>,
     start: usize,
 }
 
 impl Arena {
     /// The memory starts at any byte, aligned or not.
-    fn new(memory: &[u8], shift: usize) -> Self {
+    pub fn new(memory: &[u8], shift: usize) -> Self {
         let start = MARGIN + shift;
         let mut bytes = vec![MARGIN_BYTE; start + memory.len() + MARGIN];
         bytes[start..start + memory.len()].copy_from_slice(memory);
@@ -64,15 +64,15 @@ impl Arena {
         self.bytes.len() - MARGIN
     }
 
-    fn memory(&self) -> &[u8] {
+    pub fn memory(&self) -> &[u8] {
         &self.bytes[self.start..self.end()]
     }
 
-    fn lend(&mut self, length: usize) -> &mut [u8] {
+    pub fn lend(&mut self, length: usize) -> &mut [u8] {
         &mut self.bytes[self.start..][..length]
     }
 
-    fn margins_stand(&self) -> bool {
+    pub fn margins_stand(&self) -> bool {
         let before = &self.bytes[..self.start];
         let behind = &self.bytes[self.end()..];
         before.iter().chain(behind).all(|&b| b == MARGIN_BYTE)

@@ -11,6 +11,7 @@ use crate::reference::{
     bit, offset_in_memory, read_descriptor, walk, writable_clean, Access, Answer, Kind, Regime,
     Walk, AF, AP2, MEMORY_LIMIT, PHYSICAL_LIMIT,
 };
+use crate::refusals::all_of_set_regime;
 use crate::rule3::{Checked, Class, Event, History};
 use crate::session::{page_of, place_of, Call, Session, Way};
 use crate::tally::End;
@@ -52,8 +53,9 @@ impl Tally {
         match (event.call, event.reply) {
             (Call::SetRegime(regime), Reply::Changed(number)) => {
                 self.meet(F::SetRegime(session.regime.is_some(), number));
-                if number == 0 {
-                    self.note_switch(history, &regime, session);
+                match number {
+                    0 => self.note_switch(history, &regime, session),
+                    _ => self.note_rows(event.lent, &regime, number),
                 }
             }
             (Call::Store { address, value }, Reply::Changed(number)) => {
@@ -93,6 +95,13 @@ impl Tally {
             Some(_) => Switch::Other,
         };
         self.meet(F::Switch(switch));
+    }
+
+    /// A refused set regime: which other rows apply?
+    fn note_rows(&mut self, lent: usize, regime: &Regime, number: u8) {
+        for other in all_of_set_regime(lent, regime).skip(1) {
+            self.meet(F::FirstRow(number, other));
+        }
     }
 
     /// An accepted store: is the descriptor on the way to a held page?

@@ -2,7 +2,7 @@
 //! them, and pages worth asking for.
 
 use crate::cases::scene::{
-    draw_device, draw_granules, draw_leaf, draw_normal, draw_table, Placement, Scene,
+    draw_device, draw_granules, draw_leaf, draw_normal, draw_table, draw_updates, Placement, Scene,
 };
 use crate::random::Random;
 use crate::reference::{
@@ -194,8 +194,7 @@ fn draw_scene(random: &mut Random, least: u64, leaves: Leaves) -> Scene {
     ]);
     scene.draw_within(random, code, placement, granules, before, behind);
     let seldom = if leaves == Leaves::Clean { 12 } else { 4 };
-    scene.regime.ha = !random.once_in(seldom);
-    scene.regime.hd = !random.once_in(seldom);
+    (scene.regime.ha, scene.regime.hd) = draw_updates(random, seldom);
     for range in &mut scene.regime.ranges {
         range.disabled = random.once_in(16);
     }
@@ -239,8 +238,7 @@ fn finish(random: &mut Random, scene: Scene, mut pages: Vec<u64>) -> World {
 /// A regime that differs from home in something.
 pub fn vary(random: &mut Random, home: &Regime) -> Regime {
     let mut other = *home;
-    other.ha = random.coin();
-    other.hd = random.coin();
+    (other.ha, other.hd) = draw_updates(random, 2);
     other.wxn = random.coin();
     match random.below(8) {
         0 => other.output_code = random.below(6) as u8,

@@ -164,6 +164,21 @@ fn after_a_store_the_one_answer_stays() {
 }
 
 #[test]
+fn a_refused_regime_changes_nothing() {
+    let mut list = List::new();
+    let (_, mut regime) = start();
+    regime.ha = false;
+    list.call(Call::SetRegime(regime));
+    assert!(!list.history.events()[2].is_accepted());
+    assert_eq!(list.class(&write()), Some(Class::DirtyMark));
+    assert_eq!(list.read().reads, 0);
+    for number in [0, 5, 6] {
+        let broken = list.record(Call::SetRegime(regime), Reply::Changed(number));
+        assert_eq!(broken, ["rule 3: set regime is refused wrongly"]);
+    }
+}
+
+#[test]
 fn bytes_that_were_not_promised() {
     // A store that stores nothing.
     let mut list = List::new();

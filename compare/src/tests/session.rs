@@ -195,8 +195,8 @@ fn pages_64_apart_share_a_place() {
 
 #[test]
 fn a_leaf_without_access_flag_is_not_remembered() {
-    // P5: HA off.
-    let mut script = Script::with(|regime| regime.ha = false);
+    // P5: HA and HD off.
+    let mut script = Script::with(|regime| (regime.ha, regime.hd) = (false, false));
     assert_eq!(fault(script.go(Kind::Write)), (11, 3, 4));
     assert_eq!(script.held(), None);
     // P3: a probe leaves AF 0. P4: so does a Permission fault.
@@ -328,6 +328,13 @@ fn refusals_in_their_order() {
     assert_eq!(session.store(&mut [], 1, 0), Some(9));
     session.drop_all();
     assert_eq!(session.set_regime(65_535, &regime), Some(1));
+    let mut hd_alone = regime;
+    hd_alone.ha = false;
+    assert_eq!(session.set_regime(65_535, &hd_alone), Some(1));
+    hd_alone.attributes[0] = 0x0F;
+    assert_eq!(session.set_regime(65_536, &hd_alone), Some(5));
+    hd_alone.attributes = regime.attributes;
+    assert_eq!(session.set_regime(65_536, &hd_alone), Some(13));
     assert_eq!(session, Session::FRESH);
 
     assert_eq!(session.set_regime(65_536, &regime), None);
@@ -342,6 +349,42 @@ fn refusals_in_their_order() {
         assert_eq!(answer, Answer::Refused(number));
     }
     assert_eq!(memory, start().0);
+}
+
+#[test]
+fn a_regime_refused_with_13_is_not_set() {
+    // P5, HA alone off.
+    let (mut memory, mut regime) = start();
+    regime.ha = false;
+    let mut session = Session::FRESH;
+    assert_eq!(session.set_regime(memory.len(), &regime), Some(13));
+    assert_eq!(session, Session::FRESH);
+    let (answer, _) = session.access(&mut memory, &access(Kind::Write));
+    assert_eq!(answer, Answer::Refused(9));
+    assert_eq!(session.store(&mut memory, 0x4000_3018, 0), Some(9));
+    assert_eq!(memory, start().0);
+
+    // Where a regime stands, it goes on with its marks.
+    let mut script = Script::new();
+    script.go(Kind::Read);
+    assert_eq!(script.session.set_regime(65_536, &regime), Some(13));
+    assert_eq!(success(script.go(Kind::Read)).1, 0);
+    let write = script.go(Kind::Write);
+    assert_eq!(success(write), (0x8000_5ABC, 4, false, true));
+}
+
+#[test]
+fn a_regime_that_13_would_refuse_is_used_as_it_is() {
+    // No call leaves such a session (RULES 10.5).
+    let mut script = Script::new();
+    script.regime.ha = false;
+    script.session.regime = Some(script.regime);
+    assert_eq!(fault(script.go(Kind::Write)), (11, 3, 4));
+    assert_eq!(script.store(0x4000_3018, READ), None);
+    // The leaf is not writable-clean, and held so.
+    assert_eq!(success(script.go(Kind::Read)).1, 4);
+    assert_eq!(fault(script.go(Kind::Write)), (15, 3, 0));
+    assert_eq!(script.leaf(), READ);
 }
 
 #[test]
@@ -360,12 +403,13 @@ fn what_empties_the_places() {
 
     // Nothing that is refused, by whichever row.
     type Change = fn(&mut Regime);
-    let changes: [(u8, Change); 5] = [
+    let changes: [(u8, Change); 6] = [
         (1, |regime| regime.pool.length = 69_632),
         (2, |regime| regime.pool.address = 1 << 48),
         (3, |regime| regime.output_code = 6),
         (4, |regime| regime.ranges[1].root = 8),
         (5, |regime| regime.attributes[7] = 0x0F),
+        (13, |regime| regime.ha = false),
     ];
     assert_eq!(changes.map(|(row, _)| row), SET_REGIME);
     for (row, change) in changes {

@@ -1,20 +1,49 @@
 -- Rule 1 holds of every list of calls, by any functions whose every call it holds of; and so of the functions of a session.
 use Prim.Native.Nat.{ℕ}
 use mathlib.Core.List.{List, [], _∷_}
+use mathlib.Core.Logic.{_↔_}
 use mathlib.Core.Option.{Option}
 use mathlib.Core.Path.{_≡_, refl, sym, ap, ap₂, subst, subst⁻¹, _∙_}
 use lib.ListN.{length, getD}
 use Rattle.descriptor.proofs.Tests.{clash}
 use Rattle.vmsa.specs.declared.Regime.{Regime}
-use Rattle.tlb.specs.Replies.{Reply}
+use Rattle.vmsa.specs.Answers.{numberOf}
+use Rattle.checks.specs.declared.Checked.{Checked}
+use Rattle.checks.specs.declared.Checked.the-variants.{Accepted, Refused}
+use Rattle.checks.specs.Order.{firstOf, regimeRows, regimeCheck}
+use Rattle.checks.proofs.Accept.{settled}
+use Rattle.rules.specs.Rule1.{FirstNumber, Managed}
+use Rattle.rules.proofs.Refusals.{refuses-first}
+use Rattle.tlb.specs.Replies.{Reply, done, refused, answered}
 use Rattle.session.specs.declared.Session.{Session as SessionStruct}
 use Rattle.session.specs.Model.{Session, Handed, Call, setRegime, access, store, dropAll}
 use Rattle.session.specs.View.{regimeHeld, leaves}
 use Rattle.session.proofs.Promises.{set-promise, access-promise, store-promise, drop-promise}
 use Rattle.calls.specs.Chains.{Event, event, Functions, Leaving, Calling, Chain, none-yet, more, regimeAfter, regimeFrom}
-use Rattle.calls.specs.Rule1.{Reach, Rule1Event, Same, Rule1Call, EachCall, Reaches, calls, replies, Rule1List, Rule1OfLists}
+use Rattle.calls.specs.Rule1.{rowsOf, Reach, Rule1Event, Same, Rule1Call, EachCall, ManagedIn, Reaches, calls, replies, Rule1List, Rule1OfLists}
 use Rattle.calls.specs.Code.{Made, set-regime, accessed, stored, dropped-all, Rule1OfCall, Rule1OfCode}
 use Rattle.calls.proofs.Rule1.{rule-1-call, rule1-leaves}
+
+-- a call's reply, whose refusals are those of its rows
+abbrev Refusals : ℕ → Option Regime → Call → Reply → Type 0
+Refusals n g c reply = (k : ℕ) → (reply ≡ refused k) ↔ FirstNumber (rowsOf n g c) k
+
+-- a regime that is accepted has HA where it has HD
+set-managed : (n : ℕ) (g : Option Regime) (r : Regime) → Refusals n g (setRegime r) done → Managed r
+unfolding regimeCheck
+set-managed n g r f = by (firstOf (regimeRows n r)) refl
+  where
+    by : (x : Checked) → firstOf (regimeRows n r) ≡ x → Managed r
+    by Accepted e = settled n r e .managed
+    by (Refused x) e = let q : done ≡ refused (numberOf x) = f (numberOf x) .1 (x, refuses-first (regimeRows n r) x e, refl) in clash (cc)
+
+after-managed : (n : ℕ) (g : Option Regime) (c : Call) (reply : Reply) → Refusals n g c reply → ManagedIn g → ManagedIn (regimeAfter c reply g)
+after-managed n g (setRegime r) done f h = set-managed n g r f
+after-managed n g (setRegime r) (refused k) f h = h
+after-managed n g (setRegime r) (answered o k) f h = h
+after-managed n g (access a) reply f h = h
+after-managed n g (store address value) reply f h = h
+after-managed n g dropAll reply f h = h
 
 module _ {S : Type 0} (regime : S → Option Regime) (F : Functions S) (rule : (s : S) (m : List ℕ) (c : Call) (x : Handed S Reply) → F s m c x → Rule1Call regime F s m c x) (s₀ : S) (m₀ : List ℕ) where
   -- the session's regime is the one last accepted
@@ -26,6 +55,11 @@ module _ {S : Type 0} (regime : S → Option Regime) (F : Functions S) (rule : (
   each none-yet = tt
   each (more {s = s} {m = m} {c = c} {x = x} before made) =
       (subst (λ (g : Option Regime). Rule1Event g (event c m x)) (known before) (rule s m c x made .shows), each before)
+
+  managed : {s : S} {m : List ℕ} {past : List Event} → Chain F s₀ m₀ s m past → ManagedIn (regime s₀) → ManagedIn (regime s)
+  managed none-yet h = h
+  managed (more {s = s} {m = m} {c = c} {x = x} before made) h =
+      subst⁻¹ ManagedIn (rule s m c x made .accepted) (after-managed (length m) (regime s) c (x .reply) (rule s m c x made .shows .refusals) (managed before h))
 
   long : {s : S} {m : List ℕ} {past : List Event} → Chain F s₀ m₀ s m past → length m ≡ length m₀
   long none-yet = refl
@@ -59,6 +93,7 @@ module _ {S : Type 0} (regime : S → Option Regime) (F : Functions S) (rule : (
   rule1-list chain =
       record {
         each = each chain;
+        managed = managed chain;
         long = long chain;
         outside = λ At f. outside At chain f;
         unheard = λ At f n₀ h t n other chain′ e. unheard At chain f n₀ h chain′ e;

@@ -12,7 +12,7 @@ use Rattle.vmsa.specs.declared.Regime.{Regime}
 use Rattle.vmsa.specs.declared.Refusal.{Refusal}
 use Rattle.vmsa.specs.declared.Refusal.the-variants.{NoRegime}
 use Rattle.checks.specs.Order.{memoryRows, regimeRows, accessRows, storeRows}
-use Rattle.rules.specs.Rule1.{FirstNumber}
+use Rattle.rules.specs.Rule1.{FirstNumber, Managed}
 use Rattle.tlb.specs.Replies.{Reply, refused}
 use Rattle.tlb.specs.Ours.{ours}
 use Rattle.session.specs.Model.{Session, Handed, Call, setRegime, access, store, dropAll, call}
@@ -81,6 +81,11 @@ abbrev pub EachCall : Option Regime → List Event → Type 0
 EachCall g [] = Unit {0}
 EachCall g (e ∷ before) = Rule1Event (regimeFrom g before) e × EachCall g before
 
+-- a session's regime, where it has one, manages dirty state together with the Access flag or not at all
+abbrev pub ManagedIn : Option Regime → Type 0
+ManagedIn none = Unit {0}
+ManagedIn (some r) = Managed r
+
 -- At holds every byte that the calls of a list reach
 abbrev pub Reaches : (ℕ → Type 0) → Option Regime → List Event → Type 0
 Reaches At g [] = Unit {0}
@@ -96,6 +101,8 @@ module _ {S : Type 0} (regime : S → Option Regime) (F : Functions S) where
   -- the calls past, from the session s₀ over m₀, left the session s and the memory m
   pub record Rule1List (s₀ : S) (m₀ : List ℕ) (s : S) (m : List ℕ) (past : List Event) : Type 1 where
     pub each : EachCall (regime s₀) past
+    -- so a session that has no regime with HD on and HA off does not come to one (row 13)
+    pub managed : ManagedIn (regime s₀) → ManagedIn (regime s)
     -- no byte out of the reach of all of them is changed,
     pub long : length m ≡ length m₀
     pub outside : (At : ℕ → Type 0) → Reaches At (regime s₀) past → (i : ℕ) → (At i → ⊥) → getD m i 0 ≡ getD m₀ i 0

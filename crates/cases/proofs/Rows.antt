@@ -10,7 +10,7 @@ use Rattle.descriptor.specs.Bits.{setBit, clearBit}
 use Rattle.descriptor.proofs.Tests.{and-true}
 use Rattle.geometry.specs.Geometry.{pageSize, strideBits, unaligned, pageOf, levelOf, shiftOf, span, blockAt, firstLeft, cut, outputBits, outputLimit}
 use Rattle.vmsa.specs.Attributes.{attribute, device, normal}
-use Rattle.refusals.specs.Tests.{memoryPoolBad, poolAddressBad, tszBad, sizesBad, rootBad, rootsBad, attributeBad, attributesBad, accessSizeBad, lastByte, crossing}
+use Rattle.refusals.specs.Tests.{memoryPoolBad, poolAddressBad, tszBad, sizesBad, rootBad, rootsBad, attributeBad, attributesBad, dirtyStateBad, accessSizeBad, lastByte, crossing}
 use Rattle.checks.specs.Order.{walkCheck}
 use Rattle.vmsa.specs.declared.AccessKind.the-variants.{Read}
 use Rattle.lookup.specs.Trace.{Trace}
@@ -57,7 +57,7 @@ unfolding allSound rows allPlaced placed
 all-sound = refl
 
 all-computed : outcomes computed rows ≡ outcomes expected rows
-unfolding outcomes rows puts valueAt quick walkAlong quickWalk setBit clearBit pageSize strideBits unaligned pageOf levelOf shiftOf span blockAt firstLeft cut outputBits outputLimit attribute device normal memoryPoolBad poolAddressBad tszBad sizesBad rootBad rootsBad attributeBad attributesBad accessSizeBad lastByte crossing walkCheck invalid isTable addressIn decoded entryAt followed entered descend upper rangeOf outside contextOf locate attributeOf writable clean user mayRead mayWrite mayFetch permitted misaligned flagFails alignmentFails permissionFails flagDue dirtyDue updated cacheable outputOf failing passing decision
+unfolding outcomes rows puts valueAt quick walkAlong quickWalk setBit clearBit pageSize strideBits unaligned pageOf levelOf shiftOf span blockAt firstLeft cut outputBits outputLimit attribute device normal memoryPoolBad poolAddressBad tszBad sizesBad rootBad rootsBad attributeBad attributesBad dirtyStateBad accessSizeBad lastByte crossing walkCheck invalid isTable addressIn decoded entryAt followed entered descend upper rangeOf outside contextOf locate attributeOf writable clean user mayRead mayWrite mayFetch permitted misaligned flagFails alignmentFails permissionFails flagDue dirtyDue updated cacheable outputOf failing passing decision
 all-computed = refl
 
 visited : (ds : List (ℕ × ℕ)) → allPlaced (base .pool .length) ds ≡ true → visitedIn ds ≡ locate base (quick (base .pool .length) ds poolAddress) (usual Read .address .0) .visited

@@ -156,9 +156,9 @@ rows =
     ∷ row base (usual ProbeWrite) tables (refused 6) []
     -- P4
     ∷ row (withHd base false) (usual Write) tables (failed 15 3 false 4) []
-    -- P5, with HD on and with HD off
-    ∷ row (withHa base false) (usual Write) tables (failed 11 3 false 4) []
+    -- P5, with HD off too; with HD on it is refused
     ∷ row (withHd (withHa base false) false) (usual Write) tables (failed 11 3 false 4) []
+    ∷ row (withHa base false) (usual Write) tables (refused 13) []
     -- P6
     ∷ row base (usual Read) (withThird 0x4000F003) (failed 7 3 false 4) []
     -- P7
@@ -181,6 +181,9 @@ rows =
     ∷ row (withHd base false) (usual Write) (withLeaf accessedLeaf) (failed 15 3 true 4) []
     -- writable-clean counts as writable where WXN asks
     ∷ row (withWxn base true) (usual Fetch) tables (failed 15 3 false 4) []
+    -- 13 is checked after 5 and before 6
+    ∷ row (withAttributes (withHa base false) (eight 0x10)) (usual Write) tables (refused 5) []
+    ∷ row (withHa base false) (access 0x403ABC 3 Write) tables (refused 13) []
     -- a leaf in the pool's last 8 bytes, and a descriptor just after the pool
     ∷ row base (access 0x5FFABC 4 Write) (withThird 0x4000F003 ++ stored 0x4000FFF8 leaf ∷ []) (passed 0x80005ABC true true true) (stored 0x4000FFF8 dirtyLeaf ∷ [])
     ∷ row base (access 0x400ABC 4 Write) (withThird 0x40010003) (failed 23 3 false 4) []

@@ -17,7 +17,7 @@ use Rattle.vmsa.specs.declared.Access.{Access}
 use Rattle.vmsa.specs.declared.Refusal.{Refusal}
 use Rattle.checks.specs.declared.Checked.{Checked}
 use Rattle.checks.specs.declared.Checked.the-variants.{Accepted, Refused}
-use Rattle.refusals.specs.Tests.{memoryPoolBad, poolAddressBad, tszBad, sizesBad, rootBad, rootsBad, attributesBad, accessSizeBad, lastByte, crossing}
+use Rattle.refusals.specs.Tests.{memoryPoolBad, poolAddressBad, tszBad, sizesBad, rootBad, rootsBad, attributesBad, dirtyStateBad, accessSizeBad, lastByte, crossing}
 use Rattle.checks.specs.Order.{firstBefore, firstOf, regimeRows, accessRows, walkRows, regimeCheck, accessCheck, walkCheck}
 
 -- no test of the rows applies
@@ -66,6 +66,7 @@ pub record Settled (n : ℕ) (r : Regime) : Type 0 where
   pub sized : Sized r
   pub root0 : Rooted (r .range0 .root .0)
   pub root1 : Rooted (r .range1 .root .0)
+  pub managed : r .hd ≡ true → r .ha ≡ true
 
 pub pooled : (n : ℕ) (pool : Pool) → memoryPoolBad n pool ≡ false → Pooled n pool
 unfolding memoryPoolBad
@@ -138,9 +139,9 @@ shaped a e f =
       one-page = eqb-true p q (not-false (eqb p q) f);
     }
 
-settled-by : (n : ℕ) (r : Regime) → memoryPoolBad n (r .pool) ≡ false → poolAddressBad (r .pool) ≡ false → sizesBad r ≡ false → rootsBad r ≡ false → Settled n r
-unfolding rootsBad
-settled-by n r e1 e2 e3 e4 =
+settled-by : (n : ℕ) (r : Regime) → memoryPoolBad n (r .pool) ≡ false → poolAddressBad (r .pool) ≡ false → sizesBad r ≡ false → rootsBad r ≡ false → dirtyStateBad r ≡ false → Settled n r
+unfolding rootsBad dirtyStateBad
+settled-by n r e1 e2 e3 e4 e13 =
     let s = or-false (rootBad (r .range0 .root .0)) (rootBad (r .range1 .root .0)) e4 in
     record {
       pool = pooled n (r .pool) e1;
@@ -148,12 +149,13 @@ settled-by n r e1 e2 e3 e4 =
       sized = sized r e3;
       root0 = rooted (r .range0 .root .0) (s .0);
       root1 = rooted (r .range1 .root .0) (s .1);
+      managed = λ h. not-false (r .ha) (rw h at e13);
     }
 
 -- a regime that is accepted
 pub settled : (n : ℕ) (r : Regime) → regimeCheck n r ≡ Accepted → Settled n r
 unfolding regimeCheck
-settled n r e = let c = clear (regimeRows n r) e in settled-by n r (c .0) (c .1 .0) (c .1 .1 .0) (c .1 .1 .1 .0)
+settled n r e = let c = clear (regimeRows n r) e in settled-by n r (c .0) (c .1 .0) (c .1 .1 .0) (c .1 .1 .1 .0) (c .1 .1 .1 .1 .1 .0)
 
 -- an access that is accepted
 pub access-shaped : (a : Access) → accessCheck a ≡ Accepted → Shaped a
@@ -165,4 +167,4 @@ pub walk-accepted : (n : ℕ) (r : Regime) (a : Access) → walkCheck n r a ≡ 
 unfolding walkCheck
 walk-accepted n r a e =
     let c = clear (walkRows n r a) e in
-    (settled-by n r (c .0) (c .1 .0) (c .1 .1 .0) (c .1 .1 .1 .0), shaped a (c .1 .1 .1 .1 .1 .0) (c .1 .1 .1 .1 .1 .1 .0))
+    (settled-by n r (c .0) (c .1 .0) (c .1 .1 .0) (c .1 .1 .1 .0) (c .1 .1 .1 .1 .1 .0), shaped a (c .1 .1 .1 .1 .1 .1 .0) (c .1 .1 .1 .1 .1 .1 .1 .0))

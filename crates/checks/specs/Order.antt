@@ -7,10 +7,10 @@ use Rattle.vmsa.specs.declared.Regime.{Regime}
 use Rattle.vmsa.specs.declared.Pool.{Pool}
 use Rattle.vmsa.specs.declared.Access.{Access}
 use Rattle.vmsa.specs.declared.Refusal.{Refusal}
-use Rattle.vmsa.specs.declared.Refusal.the-variants.{MemoryPool, PoolAddress, Sizes, Root, Attributes, AccessSize, PageCrossing, StoreAddress}
+use Rattle.vmsa.specs.declared.Refusal.the-variants.{MemoryPool, PoolAddress, Sizes, Root, Attributes, DirtyState, AccessSize, PageCrossing, StoreAddress}
 use Rattle.checks.specs.declared.Checked.{Checked}
 use Rattle.checks.specs.declared.Checked.the-variants.{Accepted, Refused}
-use Rattle.refusals.specs.Tests.{memoryPoolBad, poolAddressBad, sizesBad, rootsBad, attributesBad, accessSizeBad, crossing, storeAddressBad}
+use Rattle.refusals.specs.Tests.{memoryPoolBad, poolAddressBad, sizesBad, rootsBad, attributesBad, dirtyStateBad, accessSizeBad, crossing, storeAddressBad}
 
 -- the refusal of the first test that applies, or else what the rest says
 abbrev pub firstBefore : List (Bool × Refusal) → Checked → Checked
@@ -27,7 +27,8 @@ memoryRows n pool = (memoryPoolBad n pool, MemoryPool) ∷ []
 -- the other settings of a regime
 abbrev pub settingRows : Regime → List (Bool × Refusal)
 settingRows r =
-    (poolAddressBad (r .pool), PoolAddress) ∷ (sizesBad r, Sizes) ∷ (rootsBad r, Root) ∷ (attributesBad (r .attributes), Attributes) ∷ []
+    (poolAddressBad (r .pool), PoolAddress) ∷ (sizesBad r, Sizes) ∷ (rootsBad r, Root) ∷ (attributesBad (r .attributes), Attributes)
+    ∷ (dirtyStateBad r, DirtyState) ∷ []
 
 -- setting a regime over n bytes of memory
 abbrev pub regimeRows : ℕ → Regime → List (Bool × Refusal)

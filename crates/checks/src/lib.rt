@@ -5,6 +5,7 @@ ghost use Rattle.checks.specs.Order.{firstBefore, memoryRows, settingRow
 use refusals::access_size_bad;
 use refusals::attributes_bad;
 use refusals::crosses;
+use refusals::dirty_state_bad;
 use refusals::memory_pool_bad;
 use refusals::pool_address_bad;
 use refusals::roots_bad;
@@ -43,7 +44,8 @@ fn memory_before(n: usize, pool: Pool, rest: Checked) -> Checked
 fn settings_before(r: Regime, rest: Checked) -> Checked
     ensures { λ x. ⌜ x ≡ firstBefore (settingRows r) rest ⌝ }
 {
-    let from5 = first(attributes_bad(r.attributes), Refusal::Attributes, rest);
+    let from13 = first(dirty_state_bad(r), Refusal::DirtyState, rest);
+    let from5 = first(attributes_bad(r.attributes), Refusal::Attributes, from13);
     let from4 = first(roots_bad(r), Refusal::Root, from5);
     let from3 = first(sizes_bad(r), Refusal::Sizes, from4);
     first(pool_address_bad(r.pool), Refusal::PoolAddress, from3)

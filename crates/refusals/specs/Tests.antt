@@ -46,6 +46,10 @@ attributeBad b = not (device b || normal b)
 unfoldable pub attributesBad : ℕ → Bool
 attributesBad attributes = someBelow 8 (λ (i : ℕ). attributeBad (attribute attributes i))
 
+-- 13: HD on and HA off
+unfoldable pub dirtyStateBad : Regime → Bool
+dirtyStateBad r = r .hd && not (r .ha)
+
 -- 6: size not 1, 2, 4, 8, 16; a fetch whose size is not 4 or address not a multiple of 4; a probe with size not 1
 unfoldable pub accessSizeBad : Access → Bool
 accessSizeBad a =

@@ -2,7 +2,7 @@
 ghost use mathlib.Core.Path.{_≡_};
 ghost use Prim.Native.Nat.{_+_, _-_};
 ghost use lib.Dec.{ltb};
-ghost use Rattle.refusals.specs.Tests.{memoryPoolBad, poolAddressBad, tszBad, sizesBad, rootBad, rootsBad, attributeBad, attributesBad, accessSizeBad, lastByte, crossing, storeAddressBad};
+ghost use Rattle.refusals.specs.Tests.{memoryPoolBad, poolAddressBad, tszBad, sizesBad, rootBad, rootsBad, attributeBad, attributesBad, dirtyStateBad, accessSizeBad, lastByte, crossing, storeAddressBad};
 use vmsa::Access;
 use vmsa::PhysAddr;
 use vmsa::Pool;
@@ -87,6 +87,13 @@ pub fn attributes_bad(attributes: u64) -> bool
         | attribute_bad(vmsa::attribute(attributes, 5))
         | attribute_bad(vmsa::attribute(attributes, 6))
         | attribute_bad(vmsa::attribute(attributes, 7))
+}
+
+// 13: of the hardware's management of Access flag and dirty state.
+pub fn dirty_state_bad(r: Regime) -> bool
+    ensures { λ b. ⌜ b ≡ dirtyStateBad r ⌝ }
+{
+    r.hd & !r.ha
 }
 
 // 6: of the access's size.

@@ -15,6 +15,7 @@ use Rattle.vmsa.specs.declared.Refusal.{Refusal}
 use Rattle.checks.specs.declared.Checked.{Checked}
 use Rattle.checks.specs.declared.Checked.the-variants.{Accepted, Refused}
 use Rattle.checks.specs.Order.{walkRows, walkCheck}
+use Rattle.checks.proofs.Accept.{walk-accepted}
 use Rattle.decision.specs.Decision.{flagDue, dirtyDue}
 use Rattle.walk.specs.Walk.{Outcome, poolBytes, walkPool, walk}
 use Rattle.walk.proofs.Ends.{ready}
@@ -99,6 +100,7 @@ pub rule1 : Rule1
 rule1 = record {
   refusals = λ r a m k. (refusal-given r a m k, λ w. refusal-gives r a m (w .0) (w .1) ∙ ap refused (w .2));
   accepted = λ r a m. (taken-answers r a m, taken-by r a m);
+  managed = λ r a m h. walk-accepted (length m) r a (taken-by r a m h) .0 .managed;
   kept = refusal-keeps;
   long = same-length;
   outside = same-outside;

@@ -24,11 +24,17 @@ pub data FirstRow : List (Bool × Refusal) → Refusal → Type 0 where
 abbrev pub FirstNumber : List (Bool × Refusal) → ℕ → Type 0
 FirstNumber rows k = (x : Refusal) × FirstRow rows x × (numberOf x ≡ k)
 
+-- dirty state is managed together with the Access flag, or not at all (RULES 3.1)
+abbrev pub Managed : Regime → Type 0
+Managed r = r .hd ≡ true → r .ha ≡ true
+
 pub record Rule1 : Type 0 where
   -- a refusal is given exactly where the table (RULES 5) says, with the number of the first row that applies
   pub refusals : (r : Regime) (a : Access) (m : List ℕ) (k : ℕ) → (walk r a m .result ≡ refused k) ↔ FirstNumber (walkRows (length m) r a) k
   -- and is not given exactly where the checks of that table accept
   pub accepted : (r : Regime) (a : Access) (m : List ℕ) → (walkCheck (length m) r a ≡ Accepted) ↔ ((k : ℕ) → walk r a m .result ≢ refused k)
+  -- so no walk goes on with HD on and HA off (row 13)
+  pub managed : (r : Regime) (a : Access) (m : List ℕ) → ((k : ℕ) → walk r a m .result ≢ refused k) → Managed r
   -- a refusal changes no memory (a plain walk has no session)
   pub kept : (r : Regime) (a : Access) (m : List ℕ) (k : ℕ) → walk r a m .result ≡ refused k → walk r a m .bytes ≡ m
   -- no byte outside the guest's pool is changed, whatever the answer: the memory keeps its length,

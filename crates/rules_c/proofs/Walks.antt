@@ -39,9 +39,12 @@ module _ (m : List ℕ) (g : RegimeWords) (a : AccessWords) where
   succeeded : w .tag ≡ 0 → x ≡ success (successIn w)
   succeeded t = of-success w x refl t
 
+  unrefused : w .tag ≢ 2 → (k : ℕ) → x ≢ refused k
+  unrefused t k e = t (is-refused x k e .0)
+
   -- one that is not refused was accepted
   accepted : w .tag ≢ 2 → walkCheck (length m) R A ≡ Accepted
-  accepted t = rule1 .accepted R A m .1 (λ k e. t (is-refused x k e .0))
+  accepted t = rule1 .accepted R A m .1 (unrefused t)
 
   reads-of : (y : Result) → x ≡ y → wordsOf y .tag ≢ 2 → (wordsOf y .reads ≡ length (traceOf R A m .visited)) × (wordsOf y .reads ≤ 4)
   unfolding wordsOf
@@ -57,6 +60,7 @@ module _ (m : List ℕ) (g : RegimeWords) (a : AccessWords) where
           λ f. is-refused x k (rule1 .refusals R A m k .1 f),
         );
         kept = λ t. rule1 .kept R A m (w .refusal) (of-refused x t);
+        managed = λ t. rule1 .managed R A m (unrefused t);
         long = rule1 .long R A m;
         outside = rule1 .outside R A m;
         unheard = λ n n′ y h q p.

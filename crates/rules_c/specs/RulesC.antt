@@ -20,7 +20,7 @@ use Rattle.vmsa.specs.declared.FaultKind.{FaultKind}
 use Rattle.vmsa.specs.declared.FaultKind.the-variants.{Permission, Alignment}
 use Rattle.checks.specs.Order.{walkRows}
 use Rattle.walk.specs.Walk.{poolBytes}
-use Rattle.rules.specs.Rule1.{FirstNumber}
+use Rattle.rules.specs.Rule1.{FirstNumber, Managed}
 use Rattle.rules.specs.Steps.{AllPass, FirstFails}
 use Rattle.rules.specs.Rule2.{stepsOf, traceOf, LeafOf, offset, Placed, Right, FlagUpdate, DirtyUpdate}
 use Rattle.tlb.specs.Walker.{noRegime}
@@ -53,6 +53,8 @@ module _ (m : List ℕ) (g : RegimeWords) (a : AccessWords) (m′ : List ℕ) (w
     -- it is refused with k exactly where the first row that applies has the number k, and then changes nothing
     pub refusals : (k : ℕ) → ((w .tag ≡ 2) × (w .refusal ≡ k)) ↔ FirstNumber (walkRows (length m) R A) k
     pub kept : w .tag ≡ 2 → m′ ≡ m
+    -- where it is not refused, HA is on where HD is (row 13)
+    pub managed : w .tag ≢ 2 → Managed R
     -- no byte outside the pool is changed, or has a say; and bytes stay bytes
     pub long : length m′ ≡ length m
     pub outside : (i : ℕ) → (i < R .pool .start) ⊎ (R .pool .start + R .pool .length ≤ i) → getD m′ i 0 ≡ getD m i 0

@@ -24,7 +24,7 @@ pub data Spot : Type 0 where
 -- ---- the walker that a session stands on
 
 pub record Walker : Type 0 where
-  -- the checks: row 1 over n bytes of memory; rows 2 to 5; rows 6 and 7; row 8
+  -- the checks: row 1 over n bytes of memory; the other rows of a regime; those of an access; that of a store
   pub memoryCheck : Regime → ℕ → Checked
   pub settingCheck : Regime → Checked
   pub accessCheck : Access → Checked

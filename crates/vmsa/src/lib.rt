@@ -147,6 +147,7 @@ pub enum Refusal {
     PageCrossing,
     StoreAddress,
     NoRegime,
+    DirtyState,
 }
 
 pub enum Answer {
@@ -377,6 +378,7 @@ impl Refusal {
             Refusal::PageCrossing => 7,
             Refusal::StoreAddress => 8,
             Refusal::NoRegime => 9,
+            Refusal::DirtyState => 13,
         }
     }
 }

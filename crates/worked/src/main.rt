@@ -231,6 +231,7 @@ fn main() {
     run(2, r, write, THIRD, LEAF);
     run(3, r, probe, THIRD, LEAF);
     run(4, r.with_hd(false), write, THIRD, LEAF);
+    run(5, r.with_ha(false).with_hd(false), write, THIRD, LEAF);
     run(5, r.with_ha(false), write, THIRD, LEAF);
     run(6, r, read, 0x4000F003, LEAF);
     run(7, r, read, 0x40010003, LEAF);

@@ -113,12 +113,12 @@ fn flags_are_true_unless_0() {
         assert_eq!(ask(disabled1, upper).code, 4);
         assert_eq!(ask(disabled1, READ).tag, 0);
 
-        let updates = Regime {
-            ha: flag,
-            hd: flag,
-            ..REGIME
-        };
-        assert_eq!(ask(updates, WRITE), ask(REGIME, WRITE));
+        let updates = |ha, hd| ask(Regime { ha, hd, ..REGIME }, WRITE);
+        assert_eq!(updates(flag, flag), updates(1, 1));
+        assert_eq!(updates(flag, 1), updates(1, 1));
+        assert_eq!(updates(1, flag), updates(1, 1));
+        assert_eq!(updates(flag, 0), updates(1, 0));
+        assert_eq!(updates(0, flag).refusal, 13);
         let wxn = Regime {
             wxn: flag,
             ..REGIME
@@ -205,7 +205,7 @@ fn fresh_session() {
 
 #[test]
 fn session_keeps_each_regime_field() {
-    let regime = Regime {
+    let numbers = Regime {
         start: 0x1000,
         length: 0x2000,
         address: 0x1234_5678_9000,
@@ -214,25 +214,37 @@ fn session_keeps_each_regime_field() {
         attributes: 0x8877_6655_4433_2211,
         tsz0: 17,
         tsz1: 38,
-        disabled0: 1,
-        disabled1: 0,
         output: 4,
-        ha: 0,
-        hd: 1,
-        wxn: 0,
         ..REGIME
     };
-    assert_eq!(session(regime).regime, regime);
-    let flags = Regime {
-        disabled0: 0,
-        disabled1: 1,
-        ha: 1,
-        hd: 0,
-        wxn: 1,
-        ..regime
-    };
-    assert_eq!(session(flags).regime, flags);
-    assert_ne!(session(flags).set, 0);
+    // Each flag is on and off, and any two of them differ somewhere.
+    for [disabled0, disabled1, ha, hd, wxn] in [[1, 0, 1, 1, 0], [0, 1, 1, 0, 1], [1, 0, 0, 0, 1]] {
+        let regime = Regime {
+            disabled0,
+            disabled1,
+            ha,
+            hd,
+            wxn,
+            ..numbers
+        };
+        assert_eq!(session(regime).regime, regime);
+        assert_ne!(session(regime).set, 0);
+    }
+}
+
+/// Two pools, alike but for the page's leaf in the second, and for what other
+/// roots and sizes lead to in the first.
+fn two_pools() -> Vec<u8> {
+    let mut memory = memory();
+    memory.extend_from_within(..);
+    put(&mut memory, 0x10000 + LEAF, CLEAN + 0x1_0000);
+    put(&mut memory, 0x0ff8, 0x4000_1003);
+    put(&mut memory, 0x1010, 0xa000_0641);
+    put(&mut memory, 0x3000, 0xb000_0641);
+    put(&mut memory, 0x4000, 0x4000_5003);
+    put(&mut memory, 0x4ff8, 0x4000_5003);
+    put(&mut memory, 0x5000, 0xc000_0641);
+    memory
 }
 
 #[test]
@@ -244,15 +256,7 @@ fn session_uses_each_regime_field() {
         ..READ
     };
     let fetch = Access { kind: 3, ..READ };
-    let mut memory = memory();
-    memory.extend_from_within(..);
-    put(&mut memory, 0x10000 + LEAF, CLEAN + 0x1_0000);
-    put(&mut memory, 0x0ff8, 0x4000_1003);
-    put(&mut memory, 0x1010, 0xa000_0641);
-    put(&mut memory, 0x3000, 0xb000_0641);
-    put(&mut memory, 0x4000, 0x4000_5003);
-    put(&mut memory, 0x4ff8, 0x4000_5003);
-    put(&mut memory, 0x5000, 0xc000_0641);
+    let memory = two_pools();
     let over = |regime, access| {
         let mut plain = memory.clone();
         let mut ours = memory.clone();
@@ -263,32 +267,79 @@ fn session_uses_each_regime_field() {
         assert!(plain == ours);
         answer
     };
+    // The output size shows on a root that is beyond it, and HD needs HA.
+    let high = Regime {
+        root0: 0x1_0000_0000,
+        ..REGIME
+    };
+    let hd_off = Regime { hd: 0, ..REGIME };
     type Change = fn(&mut Regime);
-    let changes: [(Access, Change); 14] = [
-        (READ, |r| r.start = 0x10000),
-        (READ, |r| r.length = 0x3000),
-        (READ, |r| r.address = POOL - 0x1000),
-        (READ, |r| r.root0 = POOL + 0x4000),
-        (upper, |r| r.root1 = POOL + 0x4000),
-        (READ, |r| r.attributes = 0x44),
-        (READ, |r| r.tsz0 = 25),
-        (upper, |r| r.tsz1 = 25),
-        (READ, |r| r.disabled0 = 1),
-        (upper, |r| r.disabled1 = 1),
-        (WRITE, |r| r.output = 0),
-        (READ, |r| r.ha = 0),
-        (WRITE, |r| r.hd = 0),
-        (fetch, |r| r.wxn = 1),
+    let changes: [(Regime, Access, Change); 14] = [
+        (REGIME, READ, |r| r.start = 0x10000),
+        (REGIME, READ, |r| r.length = 0x3000),
+        (REGIME, READ, |r| r.address = POOL - 0x1000),
+        (REGIME, READ, |r| r.root0 = POOL + 0x4000),
+        (REGIME, upper, |r| r.root1 = POOL + 0x4000),
+        (REGIME, READ, |r| r.attributes = 0x44),
+        (REGIME, READ, |r| r.tsz0 = 25),
+        (REGIME, upper, |r| r.tsz1 = 25),
+        (REGIME, READ, |r| r.disabled0 = 1),
+        (REGIME, upper, |r| r.disabled1 = 1),
+        (high, WRITE, |r| r.output = 0),
+        (hd_off, READ, |r| r.ha = 0),
+        (REGIME, WRITE, |r| r.hd = 0),
+        (REGIME, fetch, |r| r.wxn = 1),
     ];
-    for (i, (access, change)) in changes.into_iter().enumerate() {
-        let mut regime = REGIME;
-        if i == 10 {
-            // The output size shows on a root that is beyond it.
-            regime.root0 = 0x1_0000_0000;
-        }
+    for (i, (mut regime, access, change)) in changes.into_iter().enumerate() {
         let before = over(regime, access);
         change(&mut regime);
         assert_ne!(before, over(regime, access), "change {i}");
+    }
+}
+
+/// The answers to one access made twice in a session with this regime, which
+/// no check has seen; and the memory and the entries behind them.
+fn twice(regime: Regime, leaf: u64, access: Access) -> ([Answer; 2], Vec<u8>, [Entry; ENTRIES]) {
+    let mut memory = memory();
+    put(&mut memory, LEAF, leaf);
+    let mut session = session(REGIME);
+    session.regime = regime;
+    let answers = [(); 2].map(|()| session_access(&mut session, &mut memory, &access));
+    (answers, memory, session.entries)
+}
+
+/// An access of each kind, from either level.
+fn every_kind() -> impl Iterator<Item = Access> {
+    let kinds = [(0, 4), (1, 4), (2, 4), (3, 4), (4, 1), (5, 1)];
+    kinds.into_iter().flat_map(|(kind, size)| {
+        [0, 1].map(|el0| Access {
+            kind,
+            size,
+            el0,
+            ..READ
+        })
+    })
+}
+
+#[test]
+fn session_with_hd_alone() {
+    // No call leaves one. It is not refused, and answers as with HD off.
+    let off = Regime {
+        ha: 0,
+        hd: 0,
+        ..REGIME
+    };
+    for hd in [1, 0x80, 0xff] {
+        let alone = Regime { hd, ..off };
+        assert_eq!(ask(alone, READ).refusal, 13);
+        for leaf in [CLEAN, CLEAN | AF, (CLEAN | AF) & !AP2] {
+            for access in every_kind() {
+                assert!(twice(alone, leaf, access) == twice(off, leaf, access));
+            }
+        }
+        let (answers, ..) = twice(alone, CLEAN | AF, WRITE);
+        let told = answers.map(|answer| (answer.tag, answer.code, answer.reads));
+        assert_eq!(told, [(1, 15, 4), (1, 15, 0)]);
     }
 }
 

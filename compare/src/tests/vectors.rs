@@ -1,0 +1,561 @@
+//! The reader of vectors: what it reads, what it takes for an error, and that
+//! differences are told. The second program stands in for the library.
+
+use crate::boundary::{CAnswer, Spelling, Subject};
+use crate::reference::{Access, Regime};
+use crate::session::Session;
+use crate::vectors::{File, Party, Second};
+use std::fs;
+
+/// A walk and a session over the tables of the worked cases (RULES 12).
+const GOOD: &str = "\
+# Two cases.
+case 3 walk
+note P2, P11  and a refusal
+memory 0x10000 0
+bytes 0 03100040
+bytes 0x1000 03200040
+bytes 0x2010 03300040
+bytes 0x3018 c3530080000008
+regime start=0 length=0x10000 address=0x40000000 root0=0x40000000 t0=16 disabled0=0 root1=0x40000000 t1=16 disabled1=1 code=5 ha=1 hd=1 wxn=0 attributes=ffffffffffffffff
+access 0x403abc 4 0 write
+answer ok output=0x80005abc attribute=0xff shareability=3 ng=0 level=3 af=1 dirty=1 may=1 reads=4
+visited 4 0x40000000 0x40001000 0x40002010 0x40003018
+change 0x3018 4357
+access 0xffff000000403abc 4 1 probe-read
+answer refused 6
+visited 0
+access 0x402abc 4 1 read
+answer fault code=7 level=3 may=0 reads=4
+visited 4 0x40000000 0x40001000 0x40002010 0x40003010
+end
+
+case 0x4 session
+memory 0x4000 0
+bytes 0 03100040
+bytes 0x1000 03200040
+bytes 0x2010 03300040
+bytes 0x3018 c3530080000008
+access 0x403abc 4 0 read
+answer refused 9
+set
+regime start=0 length=0x4000 address=0x40000000 root0=0x40000000 t0=16 disabled0=0 root1=0x40000000 t1=16 disabled1=1 code=5 ha=1 hd=1 wxn=0 attributes=ffffffffffffffff
+answer accepted
+access 0x403abc 4 0 read
+answer ok output=0x80005abc attribute=0xff shareability=3 ng=0 level=3 af=1 dirty=0 may=1 reads=4
+change 0x3019 57
+store 0x40003018 0x122
+answer accepted
+change 0x3018 2201
+change 0x301b 00000000
+store 0x40003019 0
+answer refused 8
+access 0x403abc 4 0 read
+answer ok output=0x80005abc attribute=0xff shareability=3 ng=0 level=3 af=0 dirty=0 may=1 reads=0
+drop
+answer accepted
+access 0x403abc 4 0 read
+answer fault code=7 level=3 may=0 reads=4
+end
+";
+
+const NAME: &str = "made.txt";
+
+fn open(text: &str) -> Result<File, String> {
+    File::new(NAME, text.as_bytes())
+}
+
+/// The good text with the first place of some words changed, and the number
+/// of the line where that is.
+fn edited(old: &str, new: &str) -> (String, usize) {
+    let at = GOOD.find(old).unwrap_or_else(|| panic!("no {old:?}"));
+    let line = GOOD[..at].matches('\n').count() + 1;
+    (GOOD.replacen(old, new, 1), line)
+}
+
+/// That words are an error, told at a line counted from the edited one.
+fn refuses_behind(old: &str, new: &str, lines: usize, what: &str) {
+    let (text, line) = edited(old, new);
+    let line = line + lines;
+    match open(&text) {
+        Ok(_) => panic!("{new:?} can be read"),
+        Err(told) => assert_eq!(told, format!("{NAME}:{line}: {what}"), "{new:?}"),
+    }
+}
+
+fn refuses(old: &str, new: &str, what: &str) {
+    refuses_behind(old, new, 0, what);
+}
+
+#[test]
+fn good_cases_are_held() {
+    let file = open(GOOD).unwrap();
+    assert_eq!([file.cases[0].number, file.cases[1].number], [3, 4]);
+    let notes = [file.cases[0].note.as_deref(), file.cases[1].note.as_deref()];
+    assert_eq!(notes, [Some("P2, P11  and a refusal"), None]);
+    let report = file.hold(&Second);
+    let told = "made.txt: 2 cases, 11 calls, 0 differences";
+    assert_eq!(report.to_string(), told);
+}
+
+#[test]
+fn shipped_files_are_held() {
+    let folder = concat!(env!("CARGO_MANIFEST_DIR"), "/vectors");
+    let entries = fs::read_dir(folder).unwrap();
+    let paths = entries.map(|entry| entry.unwrap().path());
+    let names: Vec<_> = paths
+        .map(|path| path.to_str().unwrap().to_string())
+        .filter(|name| name.ends_with(".txt"))
+        .collect();
+    assert_ne!(names.len(), 0);
+    for name in names {
+        let file = File::open(&name).unwrap_or_else(|told| panic!("{told}"));
+        assert_eq!(file.hold(&Second).differences, [""; 0]);
+    }
+}
+
+// ------------------------------------------------------------------- errors
+
+#[test]
+fn files_that_cannot_be_read_are_errors() {
+    let missing = concat!(env!("CARGO_MANIFEST_DIR"), "/vectors/none.txt");
+    let told = File::open(missing).err().unwrap();
+    assert!(told.starts_with(&format!("{missing}: ")), "{told}");
+
+    let of = |bytes: &[u8]| File::new(NAME, bytes).err();
+    let none = |line| format!("{NAME}:{line}: the file ends: there is no case");
+    assert_eq!(of(b""), Some(none(1)));
+    assert_eq!(of(b"# Nothing.\n\n"), Some(none(3)));
+    let strange = format!("{NAME}:2: a byte that is not ASCII");
+    assert_eq!(of(b"# Odd\nnote \xC3\xA4\n"), Some(strange));
+    let cut = format!("{NAME}:2: the last line does not end with a newline");
+    assert_eq!(of(b"\ncase 1 walk"), Some(cut));
+}
+
+/// Whatever is cut off, the rest is no file, unless whole cases are left.
+#[test]
+fn a_file_cut_short_is_an_error() {
+    let first_case = GOOD.find("\ncase 0x4").unwrap();
+    for length in 0..GOOD.len() {
+        let whole = length == first_case || length == first_case + 1;
+        assert_eq!(open(&GOOD[..length]).is_ok(), whole, "{length} bytes");
+    }
+}
+
+#[test]
+fn blanks_that_separate_nothing_are_errors() {
+    let what = "a blank that stands between no two words";
+    refuses("memory 0x10000 0\n", "memory 0x10000  0\n", what);
+    refuses("memory 0x10000 0\n", "memory 0x10000 0 \n", what);
+    refuses("memory 0x10000 0\n", " memory 0x10000 0\n", what);
+    refuses("end\n", "end \n", what);
+    refuses("end\n", " \nend\n", what);
+    refuses("note P2, P11  and a refusal", "note ", what);
+}
+
+#[test]
+fn lines_out_of_place_are_errors() {
+    let odd = |word, due: &str| format!("`{word}` is unknown or out of its place: due is {due}");
+    refuses("case 3", "cases 3", &odd("cases", "`case`"));
+    refuses("case 3", "end\ncase 3", &odd("end", "`case`"));
+    refuses("memory", "note\nmemory", &odd("note", "`memory`"));
+    refuses("memory 0x10000 0\n", "", &odd("bytes", "`memory`"));
+    refuses("regime", "harvest", &odd("harvest", "`regime`"));
+    refuses("answer ok", "visited ok", &odd("visited", "`answer`"));
+    refuses("visited 0\n", "", &odd("access", "`visited`"));
+    refuses("end\n\n", "", &odd("case", "`access`, `end`"));
+    refuses("end\n", "end\r\n", &odd("end\\r", "`access`, `end`"));
+    let calls = "`set`, `access`, `store`, `drop`, `end`";
+    refuses("set\n", "", &odd("regime", calls));
+    refuses("drop\n", "switch 1 0 0\n", &odd("switch", calls));
+    refuses("drop\n", "visited 0\ndrop\n", &odd("visited", calls));
+    refuses_behind("set\n", "set\nset\n", 1, &odd("set", "`regime`"));
+}
+
+#[test]
+fn unknown_words_are_errors() {
+    let kind = "unknown kind of case `harvest`";
+    refuses("case 3 walk", "case 3 harvest", kind);
+    let what = "unknown kind of access `load`";
+    refuses("4 0 write", "4 0 load", what);
+    let what = |sort| format!("`{sort}` is no answer to this call");
+    refuses("answer ok", "answer yes", &what("yes"));
+    refuses("answer refused 6", "answer accepted", &what("accepted"));
+    refuses("answer accepted", "answer ok", &what("ok"));
+    refuses_behind(
+        "drop\nanswer accepted",
+        "drop\nanswer refused 9",
+        1,
+        &what("refused"),
+    );
+}
+
+#[test]
+fn settings_are_checked() {
+    refuses("start=0", "start=0 asid=0", "unknown setting `asid`");
+    refuses(
+        "start=0",
+        "start=0 start=0",
+        "setting `start` a second time",
+    );
+    refuses("start=0 ", "", "setting `start` is missing");
+    refuses("start=0", "start", "`start` is no SETTING");
+    refuses(
+        "start=0",
+        "start=",
+        "setting `start`: `` is no NUMBER below 2^64",
+    );
+    refuses(" reads=4", "", "setting `reads` is missing");
+    refuses("fault code", "fault af", "unknown setting `af`");
+    refuses(
+        "code=7",
+        "code=65536",
+        "setting `code`: `65536` is too large for its field",
+    );
+    refuses(
+        "t0=16",
+        "t0=256",
+        "setting `t0`: `256` is too large for its field",
+    );
+    refuses("ha=1", "ha=2", "setting `ha`: `2` is no FLAG: 0 or 1");
+    refuses(
+        "may=1",
+        "may=yes",
+        "setting `may`: `yes` is no FLAG: 0 or 1",
+    );
+    let seven = "setting `attributes`: `ffffffffffffff` has 7 bytes, not 8";
+    refuses("attributes=ff", "attributes=", seven);
+}
+
+#[test]
+fn forms_are_checked() {
+    let what = |word| format!("`{word}` is no NUMBER below 2^64");
+    let beyond = "18446744073709551616";
+    for word in ["0X3", "0x", "0xA", "+3", "-3", "3h", "a", beyond] {
+        refuses("case 3", &format!("case {word}"), &what(word));
+    }
+    for word in ["0", "031", "0G", "AB", "0x03"] {
+        refuses(
+            "bytes 0 03100040",
+            &format!("bytes 0 {word}"),
+            &format!("`{word}` is no HEX"),
+        );
+    }
+    refuses("4 0 write", "4 2 write", "`2` is no FLAG: 0 or 1");
+    refuses(
+        "0x10000 0\n",
+        "0x10000 256\n",
+        "`256` is too large for its field",
+    );
+    refuses(
+        "refused 6",
+        "refused 256",
+        "`256` is too large for its field",
+    );
+    refuses("refused 6", "refused 0", "no refusal has the number 0");
+    refuses(
+        "0x10000 0\n",
+        "0x4000001 0\n",
+        "a memory of more than 67108864 bytes",
+    );
+}
+
+#[test]
+fn words_are_counted() {
+    let what =
+        |count, first: &str, wanted: &str| format!("{count} words after `{first}`, not {wanted}");
+    refuses("case 3 walk", "case 3", &what(1, "case", "2"));
+    refuses("note P2, P11  and a refusal", "note", &what(0, "note", "1"));
+    refuses(
+        "memory 0x10000 0",
+        "memory 0x10000",
+        &what(1, "memory", "2"),
+    );
+    refuses(
+        "bytes 0 03100040",
+        "bytes 0 03100040 00",
+        &what(3, "bytes", "2"),
+    );
+    refuses("4 0 write", "4 0 write 1", &what(5, "access", "4"));
+    refuses(
+        "answer refused 6",
+        "answer refused",
+        &what(1, "answer", "2"),
+    );
+    refuses(
+        "answer refused 6",
+        "answer",
+        &what(0, "answer", "one or more"),
+    );
+    refuses(
+        "answer accepted",
+        "answer accepted 1",
+        &what(2, "answer", "1"),
+    );
+    refuses("visited 0", "visited", &what(0, "visited", "one or more"));
+    refuses("visited 0", "visited 1", "0 addresses, not 1");
+    refuses("set\n", "set 1\n", &what(1, "set", "0"));
+    refuses("0x40003018 0x122", "0x40003018", &what(1, "store", "2"));
+    refuses("drop\n", "drop all\n", &what(1, "drop", "0"));
+    refuses("end\n", "end 3\n", &what(1, "end", "0"));
+}
+
+#[test]
+fn bytes_and_changes_are_checked() {
+    let outside = "bytes outside the memory";
+    refuses("bytes 0 03100040", "bytes 0xfffd 03100040", outside);
+    refuses("bytes 0 03100040", "bytes 0x10001 03", outside);
+    refuses("bytes 0 03100040", "bytes 0xffffffffffffffff 03", outside);
+    refuses("change 0x3018 4357", "change 0xffff 4357", outside);
+    let twice = "a byte of another change of this call";
+    refuses_behind(
+        "change 0x3018 4357",
+        "change 0x3018 4357\nchange 0x3019 57",
+        1,
+        twice,
+    );
+    refuses_behind(
+        "change 0x3018 4357",
+        "change 0x3019 57\nchange 0x3018 4357",
+        1,
+        twice,
+    );
+}
+
+#[test]
+fn a_case_has_a_call() {
+    let text = "case 1 session\nmemory 0 0\nend\n";
+    let told = open(text).err();
+    assert_eq!(told, Some(format!("{NAME}:3: a case without a call")));
+}
+
+// -------------------------------------------------------------- differences
+
+/// That an edit makes the second program differ at a line counted from the
+/// edited one, with these words; and so once for each party.
+fn differs(old: &str, new: &str, back: usize, words: &[&str]) {
+    let (text, line) = edited(old, new);
+    let file = open(&text).unwrap_or_else(|told| panic!("{told}"));
+    let report = file.hold(&Second);
+    assert_eq!(report.differences.len(), 2, "{new:?}: {report}");
+    let told = &report.differences[0];
+    let place = format!("DIFFERENCE at {NAME}:{}, case ", line - back);
+    assert!(told.starts_with(&place), "{new:?}: {told}");
+    for words in words {
+        assert!(told.contains(words), "{new:?}: {told}");
+    }
+    let tail = ": 2 cases, 11 calls, 2 differences";
+    assert!(report.to_string().ends_with(tail), "{report}");
+}
+
+/// What is told of a wrong answer in the walks.
+const TOLD: &[&str] = &[
+    "case 3: second program\n",
+    "\n  note: P2",
+    "\n  call: Access",
+    "\n  expected: CAnswer",
+    "\n  came: CAnswer",
+];
+
+#[test]
+fn each_field_of_a_success_counts() {
+    for (old, new) in [
+        ("output=0x80005abc", "output=0x80005abd"),
+        ("attribute=0xff", "attribute=0xfe"),
+        ("shareability=3", "shareability=2"),
+        ("ng=0", "ng=1"),
+        ("level=3", "level=2"),
+        ("af=1", "af=0"),
+        ("dirty=1", "dirty=0"),
+        ("may=1", "may=0"),
+        ("reads=4", "reads=3"),
+    ] {
+        differs(old, new, 1, TOLD);
+    }
+}
+
+#[test]
+fn each_field_of_a_fault_counts() {
+    let old = "code=7 level=3 may=0 reads=4";
+    for (field, wrong) in [
+        ("code=7", "code=6"),
+        ("level=3", "level=2"),
+        ("may=0", "may=1"),
+        ("reads=4", "reads=0"),
+    ] {
+        differs(old, &old.replace(field, wrong), 1, TOLD);
+    }
+}
+
+#[test]
+fn refusals_count() {
+    let told = ["expected: refused 7", "came: refused 6"];
+    differs("refused 6", "refused 7", 1, &told);
+    differs("refused 9", "refused 1", 1, &["case 4", "came: refused 9"]);
+    let told = ["expected: refused 13", "came: accepted"];
+    differs("answer accepted", "answer refused 13", 2, &told);
+    let told = ["expected: accepted", "came: refused 8"];
+    differs("answer refused 8", "answer accepted", 1, &told);
+}
+
+#[test]
+fn each_byte_counts() {
+    let first = |offset, wanted, came| {
+        format!("at offset {offset:#x}: expected {wanted:#04x}, came {came:#04x}")
+    };
+    differs(
+        "change 0x3018 4357\n",
+        "",
+        3,
+        &["differ: 2,", &first(0x3018, 0xC3, 0x43)],
+    );
+    differs(
+        "change 0x3018 4357",
+        "change 0x3018 4356",
+        3,
+        &[&first(0x3019, 0x56, 0x57)],
+    );
+    let more = "change 0x3018 4357\nchange 0xffff 01";
+    differs(
+        "change 0x3018 4357",
+        more,
+        3,
+        &["differ: 1,", &first(0xFFFF, 1, 0)],
+    );
+    differs(
+        "change 0x301b 00000000\n",
+        "",
+        3,
+        &[&first(0x301B, 0x80, 0)],
+    );
+    let after_a_drop = "drop\nanswer accepted\nchange 0 00";
+    differs("drop\nanswer accepted", after_a_drop, 0, &[&first(0, 0, 3)]);
+}
+
+#[test]
+fn the_visited_list_counts() {
+    let told = ["expected: visited 4 0x40000000 0x40001000 0x40002010 0x40003010"];
+    differs(
+        "0x40002010 0x40003018\nchange",
+        "0x40002010 0x40003010\nchange",
+        2,
+        &told,
+    );
+    let told = [
+        "came: visited 4 0x40000000",
+        "expected: 3 visited; came: 4 reads",
+    ];
+    differs("visited 4 0x40000000 ", "visited 3 ", 2, &told);
+    let told = ["came: visited 0\n", "expected: 1 visited; came: 0 reads"];
+    differs("visited 0", "visited 1 0x40000000", 2, &told);
+}
+
+// ------------------------------------------------------------- other parties
+
+/// The second program without its list of addresses, and with a slip.
+#[derive(Clone)]
+struct Slips<S> {
+    session: Session,
+    slip: S,
+}
+
+/// What a slip makes of an answer and of the memory.
+trait Slip: Fn(&mut CAnswer, &mut [u8]) + Copy {}
+impl<S: Fn(&mut CAnswer, &mut [u8]) + Copy> Slip for S {}
+
+impl<S: Slip> Party for Slips<S> {
+    const NAME: &'static str = "library";
+    type Session = Slips<S>;
+
+    fn walk(
+        &self,
+        memory: &mut [u8],
+        regime: &Regime,
+        access: &Access,
+        spelling: Spelling,
+    ) -> (CAnswer, Option<Vec<u64>>) {
+        let (mut answer, _) = Second.walk(memory, regime, access, spelling);
+        (self.slip)(&mut answer, memory);
+        (answer, None)
+    }
+
+    fn fresh(&self, _: u64) -> Result<Self, String> {
+        Ok(self.clone())
+    }
+}
+
+impl<S: Slip> Subject for Slips<S> {
+    fn set_regime(&mut self, memory: &mut [u8], regime: &Regime, spelling: Spelling) -> u8 {
+        Subject::set_regime(&mut self.session, memory, regime, spelling)
+    }
+
+    fn access(&mut self, memory: &mut [u8], access: &Access, spelling: Spelling) -> CAnswer {
+        let mut answer = Subject::access(&mut self.session, memory, access, spelling);
+        (self.slip)(&mut answer, memory);
+        answer
+    }
+
+    fn store(&mut self, memory: &mut [u8], address: u64, value: u64) -> u8 {
+        self.session.store(memory, address, value).unwrap_or(0)
+    }
+
+    fn invalidate_all(&mut self) {
+        self.session.drop_all();
+    }
+}
+
+/// The lines of the good text in which a slip of the library is told.
+fn lines_told(slip: impl Slip) -> Vec<usize> {
+    let file = open(GOOD).unwrap();
+    let session = Session::FRESH;
+    let report = file.hold(&Slips { session, slip });
+    let line = |told: &String| {
+        assert!(told.contains(": library\n"), "{told}");
+        let place = told.strip_prefix(&format!("DIFFERENCE at {NAME}:"));
+        let number = place.unwrap().split(',').next().unwrap();
+        number.parse().unwrap()
+    };
+    report.differences.iter().map(line).collect()
+}
+
+#[test]
+fn slips_of_the_library_are_told() {
+    assert_eq!(lines_told(|_, _| {}), []);
+    // Each walk by itself; of a session the first call.
+    assert_eq!(
+        lines_told(|answer, _| answer.spare[3] = 1),
+        [10, 14, 17, 28]
+    );
+    assert_eq!(lines_told(|_, memory| memory[0x3FFF] = 1), [10, 14, 17, 28]);
+    let uncounted = |answer: &mut CAnswer, _: &mut [u8]| answer.reads = 0;
+    assert_eq!(lines_told(uncounted), [10, 17, 33]);
+}
+
+#[test]
+fn a_wrong_fresh_session_is_told() {
+    struct Unfit;
+
+    impl Party for Unfit {
+        const NAME: &'static str = "library";
+        type Session = Session;
+
+        fn walk(
+            &self,
+            memory: &mut [u8],
+            regime: &Regime,
+            access: &Access,
+            spelling: Spelling,
+        ) -> (CAnswer, Option<Vec<u64>>) {
+            Second.walk(memory, regime, access, spelling)
+        }
+
+        fn fresh(&self, _: u64) -> Result<Session, String> {
+            Err("byte 7 of the session".to_string())
+        }
+    }
+
+    let file = open(GOOD).unwrap();
+    let report = file.hold(&Unfit);
+    assert_eq!(report.differences.len(), 1);
+    assert!(report.differences[0].ends_with("\n  byte 7 of the session"));
+}

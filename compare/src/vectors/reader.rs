@@ -1,0 +1,307 @@
+//! From the lines of a file to its cases.
+//!
+//! What can be read stands in tables: the kinds of case in `KINDS`, the calls
+//! of a session in `CALLS`, the settings in `settings.rs`.
+
+use super::settings;
+use super::text::{Line, Lines, Problem, NOTE};
+use crate::boundary::{plain_answer, CAnswer, Reply, FAULT, SUCCESS};
+use crate::reference::{Access, Answer, Kind, Regime, MEMORY_LIMIT};
+use crate::session::Call;
+
+/// The longest memory that a case may have: 64 MiB, well above what may be lent.
+pub const LONGEST_MEMORY: usize = 1 << 26;
+
+const _: () = assert!(LONGEST_MEMORY > MEMORY_LIMIT);
+
+const END: &str = "end";
+
+pub struct Case {
+    pub line: usize,
+    pub number: u64,
+    pub note: Option<String>,
+    pub memory: Vec<u8>,
+    pub calls: Calls,
+}
+
+/// The calls of a case, by its kind.
+pub enum Calls {
+    /// Plain walks, each over the memory of the case.
+    Walk(Regime, Vec<Step<Access>>),
+    /// From the fresh session, each over the memory that the last one left.
+    Session(Vec<Step<Call>>),
+}
+
+impl Calls {
+    pub fn count(&self) -> usize {
+        match self {
+            Calls::Walk(_, steps) => steps.len(),
+            Calls::Session(steps) => steps.len(),
+        }
+    }
+}
+
+/// A call and what should come of it.
+pub struct Step<C> {
+    pub line: usize,
+    pub call: C,
+    pub reply: Reply,
+    /// The descriptor addresses in order, where the case tells them.
+    pub visited: Option<Vec<u64>>,
+    pub changes: Vec<Run>,
+}
+
+/// A run of bytes of the memory.
+pub struct Run {
+    pub offset: usize,
+    pub bytes: Vec<u8>,
+}
+
+impl Run {
+    pub fn write(&self, memory: &mut [u8]) {
+        memory[self.offset..][..self.bytes.len()].copy_from_slice(&self.bytes);
+    }
+
+    fn end(&self) -> usize {
+        self.offset + self.bytes.len()
+    }
+
+    fn overlaps(&self, other: &Run) -> bool {
+        self.offset < other.end() && other.offset < self.end()
+    }
+}
+
+/// Reads the rest of a case, whose memory has so many bytes.
+type ReadCalls = fn(&mut Lines, usize) -> Result<Calls, Problem>;
+
+const KINDS: &[(&str, ReadCalls)] = &[("walk", walk), ("session", session)];
+
+/// Reads a call, whose first line is given.
+type ReadCall = fn(&mut Lines, &Line) -> Result<Call, Problem>;
+
+const CALLS: &[(&str, ReadCall)] = &[
+    ("set", set),
+    ("access", |_, line| access(line).map(Call::Access)),
+    ("store", |_, line| store(line)),
+    ("drop", |_, line| line.words().map(|[]| Call::DropAll)),
+];
+
+const ACCESSES: &[(&str, Kind)] = &[
+    ("read", Kind::Read),
+    ("write", Kind::Write),
+    ("update", Kind::Update),
+    ("fetch", Kind::Fetch),
+    ("probe-read", Kind::ProbeRead),
+    ("probe-write", Kind::ProbeWrite),
+];
+
+/// The row of a table with a name.
+fn find<T: Copy>(table: &[(&str, T)], name: &str) -> Option<T> {
+    table.iter().find(|row| row.0 == name).map(|row| row.1)
+}
+
+/// All cases of a file, of which there is at least one.
+///
+/// # Errors
+///
+/// The first line that cannot be read.
+pub fn read(file: &[u8]) -> Result<Vec<Case>, Problem> {
+    let mut lines = Lines::new(file)?;
+    let mut cases = Vec::new();
+    while !lines.at_end() {
+        cases.push(case(&mut lines)?);
+    }
+    if cases.is_empty() {
+        return Err(lines.ended("there is no case"));
+    }
+    Ok(cases)
+}
+
+fn case(lines: &mut Lines) -> Result<Case, Problem> {
+    let line = lines.take(&["case"])?;
+    let [number, kind] = line.words()?;
+    let number = line.read(number)?;
+    let unknown = || line.problem(format!("unknown kind of case `{kind}`"));
+    let calls = find(KINDS, kind).ok_or_else(unknown)?;
+    let note = lines.take_if(NOTE).map(|line| line.words());
+    let note = note.transpose()?.map(|[text]| text.to_string());
+    let memory = memory(lines)?;
+    let calls = calls(lines, memory.len())?;
+    Ok(Case {
+        line: line.number,
+        number,
+        note,
+        memory,
+        calls,
+    })
+}
+
+fn memory(lines: &mut Lines) -> Result<Vec<u8>, Problem> {
+    let line = lines.take(&["memory"])?;
+    let [length, fill] = line.words()?;
+    let length: usize = line.read(length)?;
+    if length > LONGEST_MEMORY {
+        return Err(line.problem(format!("a memory of more than {LONGEST_MEMORY} bytes")));
+    }
+    let mut memory = vec![line.read(fill)?; length];
+    while let Some(line) = lines.take_if("bytes") {
+        run(&line, length)?.write(&mut memory);
+    }
+    Ok(memory)
+}
+
+/// The bytes of a line, which must lie in a memory of so many bytes.
+fn run(line: &Line, length: usize) -> Result<Run, Problem> {
+    let [offset, bytes] = line.words()?;
+    let (offset, bytes): (usize, Vec<u8>) = (line.read(offset)?, line.read(bytes)?);
+    if offset > length || bytes.len() > length - offset {
+        return Err(line.problem("bytes outside the memory"));
+    }
+    Ok(Run { offset, bytes })
+}
+
+fn walk(lines: &mut Lines, length: usize) -> Result<Calls, Problem> {
+    let regime = regime(&lines.take(&["regime"])?)?;
+    let steps = steps(lines, &["access"], |lines, line| {
+        let access = access(line)?;
+        let reply = reply(lines, &Call::Access(access))?;
+        Ok(Step {
+            line: line.number,
+            call: access,
+            reply,
+            visited: Some(visited(&lines.take(&["visited"])?)?),
+            changes: changes(lines, length)?,
+        })
+    })?;
+    Ok(Calls::Walk(regime, steps))
+}
+
+fn session(lines: &mut Lines, length: usize) -> Result<Calls, Problem> {
+    let names: Vec<&str> = CALLS.iter().map(|row| row.0).collect();
+    let steps = steps(lines, &names, |lines, line| {
+        let read = find(CALLS, line.first()).expect("a call is due");
+        let call = read(lines, line)?;
+        Ok(Step {
+            line: line.number,
+            call,
+            reply: reply(lines, &call)?,
+            visited: None,
+            changes: changes(lines, length)?,
+        })
+    })?;
+    Ok(Calls::Session(steps))
+}
+
+/// The steps up to the end of the case; a step begins with one of the names.
+fn steps<C>(
+    lines: &mut Lines,
+    names: &[&str],
+    step: impl Fn(&mut Lines, &Line) -> Result<Step<C>, Problem>,
+) -> Result<Vec<Step<C>>, Problem> {
+    let due = [names, &[END]].concat();
+    let mut steps = Vec::new();
+    let end = loop {
+        let line = lines.take(&due)?;
+        if line.first() == END {
+            break line;
+        }
+        steps.push(step(lines, &line)?);
+    };
+    let [] = end.words()?;
+    if steps.is_empty() {
+        return Err(end.problem("a case without a call"));
+    }
+    Ok(steps)
+}
+
+fn regime(line: &Line) -> Result<Regime, Problem> {
+    settings::read(settings::REGIME, settings::NO_REGIME, line, line.rest())
+}
+
+fn set(lines: &mut Lines, line: &Line) -> Result<Call, Problem> {
+    let [] = line.words()?;
+    regime(&lines.take(&["regime"])?).map(Call::SetRegime)
+}
+
+fn access(line: &Line) -> Result<Access, Problem> {
+    let [address, size, el, what] = line.words()?;
+    let unknown = || line.problem(format!("unknown kind of access `{what}`"));
+    let el1: bool = line.read(el)?;
+    Ok(Access {
+        address: line.read(address)?,
+        size: line.read(size)?,
+        el0: !el1,
+        kind: find(ACCESSES, what).ok_or_else(unknown)?,
+    })
+}
+
+fn store(line: &Line) -> Result<Call, Problem> {
+    let [address, value] = line.words()?;
+    Ok(Call::Store {
+        address: line.read(address)?,
+        value: line.read(value)?,
+    })
+}
+
+/// The answer to a call, in the library's form.
+fn reply(lines: &mut Lines, call: &Call) -> Result<Reply, Problem> {
+    let line = lines.take(&["answer"])?;
+    let Some((&sort, rest)) = line.rest().split_first() else {
+        return Err(line.miscounted("one or more"));
+    };
+    let answered = |table, tag| {
+        let to = CAnswer {
+            tag,
+            ..CAnswer::default()
+        };
+        settings::read(table, to, &line, rest).map(Reply::Answered)
+    };
+    match (sort, call) {
+        ("ok", Call::Access(_)) => answered(settings::OK, SUCCESS),
+        ("fault", Call::Access(_)) => answered(settings::FAULT, FAULT),
+        ("refused", Call::Access(_)) => {
+            let answer = Answer::Refused(refusal(&line)?);
+            Ok(Reply::Answered(plain_answer(&answer)))
+        }
+        ("refused", Call::SetRegime(_) | Call::Store { .. }) => refusal(&line).map(Reply::Changed),
+        ("accepted", Call::SetRegime(_) | Call::Store { .. }) => {
+            line.words::<1>().map(|_| Reply::Changed(0))
+        }
+        ("accepted", Call::DropAll) => line.words::<1>().map(|_| Reply::Dropped),
+        _ => Err(line.problem(format!("`{sort}` is no answer to this call"))),
+    }
+}
+
+/// The number of a refusal; 0 is none.
+fn refusal(line: &Line) -> Result<u8, Problem> {
+    let [_, number] = line.words()?;
+    match line.read(number)? {
+        0 => Err(line.problem("no refusal has the number 0")),
+        number => Ok(number),
+    }
+}
+
+fn visited(line: &Line) -> Result<Vec<u64>, Problem> {
+    let Some((count, addresses)) = line.rest().split_first() else {
+        return Err(line.miscounted("one or more"));
+    };
+    let count: usize = line.read(count)?;
+    if count != addresses.len() {
+        let told = addresses.len();
+        return Err(line.problem(format!("{told} addresses, not {count}")));
+    }
+    addresses.iter().map(|word| line.read(word)).collect()
+}
+
+/// The bytes that a call leaves new; no two runs overlap.
+fn changes(lines: &mut Lines, length: usize) -> Result<Vec<Run>, Problem> {
+    let mut changes: Vec<Run> = Vec::new();
+    while let Some(line) = lines.take_if("change") {
+        let change = run(&line, length)?;
+        if changes.iter().any(|other| other.overlaps(&change)) {
+            return Err(line.problem("a byte of another change of this call"));
+        }
+        changes.push(change);
+    }
+    Ok(changes)
+}

@@ -1,0 +1,98 @@
+//! The settings: for each line that has some, one table of their names and of
+//! the fields that they go to.
+
+use super::text::{Form, Line, Problem};
+use crate::boundary::CAnswer;
+use crate::reference::{Pool, Range, Regime};
+
+/// A name, and how the word behind it gets into its field.
+pub type Setting<T> = (&'static str, fn(&mut T, &str) -> Result<(), String>);
+
+pub const REGIME: &[Setting<Regime>] = &[
+    ("start", |r, w| put(&mut r.pool.start, w)),
+    ("length", |r, w| put(&mut r.pool.length, w)),
+    ("address", |r, w| put(&mut r.pool.address, w)),
+    ("root0", |r, w| put(&mut r.ranges[0].root, w)),
+    ("t0", |r, w| put(&mut r.ranges[0].t, w)),
+    ("disabled0", |r, w| put(&mut r.ranges[0].disabled, w)),
+    ("root1", |r, w| put(&mut r.ranges[1].root, w)),
+    ("t1", |r, w| put(&mut r.ranges[1].t, w)),
+    ("disabled1", |r, w| put(&mut r.ranges[1].disabled, w)),
+    ("code", |r, w| put(&mut r.output_code, w)),
+    ("ha", |r, w| put(&mut r.ha, w)),
+    ("hd", |r, w| put(&mut r.hd, w)),
+    ("wxn", |r, w| put(&mut r.wxn, w)),
+    ("attributes", |r, w| put(&mut r.attributes, w)),
+];
+
+pub const OK: &[Setting<CAnswer>] = &[
+    ("output", |a, w| put(&mut a.output, w)),
+    ("attribute", |a, w| put(&mut a.attribute, w)),
+    ("shareability", |a, w| put(&mut a.shareability, w)),
+    ("ng", |a, w| put_flag(&mut a.nonglobal, w)),
+    ("level", |a, w| put(&mut a.level, w)),
+    ("af", |a, w| put_flag(&mut a.accessed, w)),
+    ("dirty", |a, w| put_flag(&mut a.dirtied, w)),
+    ("may", |a, w| put_flag(&mut a.cacheable, w)),
+    ("reads", |a, w| put(&mut a.reads, w)),
+];
+
+pub const FAULT: &[Setting<CAnswer>] = &[
+    ("code", |a, w| put(&mut a.code, w)),
+    ("level", |a, w| put(&mut a.level, w)),
+    ("may", |a, w| put_flag(&mut a.cacheable, w)),
+    ("reads", |a, w| put(&mut a.reads, w)),
+];
+
+/// The regime before any setting.
+pub const NO_REGIME: Regime = Regime {
+    pool: Pool {
+        start: 0,
+        length: 0,
+        address: 0,
+    },
+    ranges: [Range {
+        root: 0,
+        t: 0,
+        disabled: false,
+    }; 2],
+    output_code: 0,
+    ha: false,
+    hd: false,
+    wxn: false,
+    attributes: [0; 8],
+};
+
+fn put<F: Form>(field: &mut F, word: &str) -> Result<(), String> {
+    *field = F::read(word)?;
+    Ok(())
+}
+
+/// A flag in the library's form.
+fn put_flag(field: &mut u8, word: &str) -> Result<(), String> {
+    *field = u8::from(bool::read(word)?);
+    Ok(())
+}
+
+/// What `to` becomes by the settings of a line: each of the table once, in
+/// any order.
+pub fn read<T>(table: &[Setting<T>], mut to: T, line: &Line, words: &[&str]) -> Result<T, Problem> {
+    let mut seen: Vec<&str> = Vec::new();
+    for setting in words {
+        let Some((name, word)) = setting.split_once('=') else {
+            return Err(line.problem(format!("`{setting}` is no SETTING")));
+        };
+        let Some((_, put)) = table.iter().find(|row| row.0 == name) else {
+            return Err(line.problem(format!("unknown setting `{name}`")));
+        };
+        if seen.contains(&name) {
+            return Err(line.problem(format!("setting `{name}` a second time")));
+        }
+        put(&mut to, word).map_err(|what| line.problem(format!("setting `{name}`: {what}")))?;
+        seen.push(name);
+    }
+    match table.iter().find(|row| !seen.contains(&row.0)) {
+        Some((name, _)) => Err(line.problem(format!("setting `{name}` is missing"))),
+        None => Ok(to),
+    }
+}
