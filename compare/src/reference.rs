@@ -1,9 +1,9 @@
 //! The second walker: stage 1, EL1&0, 4 KiB granule.
 //!
-//! It was written from documents 01 and 02 of the customer and from
-//! nothing else, and shares nothing with the library or its bindings. The
-//! places cited are those of docs/RULES.md, which says the same in numbered
-//! sections.
+//! It was written from document 01 of the customer; what the customer's
+//! requests change (so far Q-6) from these and from docs/RULES.md. It shares
+//! nothing with the library or its bindings. The places cited are those of
+//! docs/RULES.md, which says the same in numbered sections.
 //!
 //! One loop goes down the levels and keeps the list of descriptor addresses;
 //! sums that could pass 2^64 are made in 128 bits.
