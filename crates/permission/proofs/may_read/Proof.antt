@@ -5,7 +5,7 @@ use Rattle.permission.proofs.may_read.Tie as tie
 
 returns : tie.Need-returns
 unfolding mayRead
-returns c = cc
+returns c = rw (c .user .ensures)
 
 pub may-read-spec : {M : Type 1} → statement M
 may-read-spec = tie.close (tie.spec (λ c κs. search needs) returns)

@@ -5,7 +5,7 @@ use Rattle.refusals.proofs.memory_pool_bad.Tie as tie
 
 returns : tie.Need-returns
 unfolding memoryPoolBad
-returns c = cc
+returns c = rw (c .before .before .before .before .unaligned .ensures, c .before .before .before .unaligned2 .ensures, c .passes .ensures)
 
 pub memory-pool-bad-spec : {M : Type 1} → statement M
 memory-pool-bad-spec =

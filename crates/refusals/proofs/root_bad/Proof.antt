@@ -5,7 +5,7 @@ use Rattle.refusals.proofs.root_bad.Tie as tie
 
 returns : tie.Need-returns
 unfolding rootBad
-returns c = cc
+returns c = rw (c .before .unaligned .ensures)
 
 pub root-bad-spec : {M : Type 1} → statement M
 root-bad-spec = tie.close (tie.spec (λ c κs. search needs) returns)
