@@ -1,4 +1,3 @@
-use borrow.Author.Needs.{needs}
 use mathlib.Core.Path.{refl}
 use Rattle.refusals.specs.Tests.{dirtyStateBad}
 use Rattle.refusals.proofs.dirty_state_bad.Statement.{statement}
