@@ -1,10 +1,10 @@
-//! Both sides on random descriptors, tables, regimes and accesses, and on any
-//! two mistakes of a call: each whole answer and each byte of memory is to be
-//! the same.
+//! Both sides on random descriptors, tables, regimes and accesses, on any two
+//! mistakes of a call, and at the limits: each whole answer and each byte of
+//! memory is to be the same.
 
-use crate::boundary::{self, Access, Regime, READ, REFUSED};
-use crate::kernels;
-use crate::plain;
+use crate::boundary::{self, Access, Regime, FAULT, READ, REFUSED, SUCCESS, WRITE};
+use crate::kernels::{self, LEAF_TABLES};
+use crate::plain::{self, MEMORY_LIMIT, POOL_LIMIT};
 
 const SCENES: u32 = 2_000;
 const CALLS: u32 = 100;
@@ -37,7 +37,7 @@ impl Random {
     fn regime(&mut self) -> Regime {
         let flags = self.next();
         let flag = |bit: u32| (flags >> bit & 1) as u8;
-        let mut regime = kernels::regime();
+        let mut regime = kernels::regime(kernels::MEMORY);
         regime.spare = self.spare();
         regime.ha = flag(0);
         regime.hd = flag(0) & flag(1);
@@ -147,6 +147,7 @@ impl Random {
 pub fn same_answers() -> u32 {
     let mut random = Random(0x9e37_79b9_7f4a_7c15);
     same_refusals();
+    same_limits();
     same_descriptors(&mut random) + same_walks(&mut random)
 }
 
@@ -165,19 +166,24 @@ const MISTAKES: [(u8, Mistake); 8] = [
     (7, |_, access| access.address = 0x40_0fff),
 ];
 
+/// An access from EL0.
+fn access(address: u64, size: u64, kind: u8) -> Access {
+    Access {
+        address,
+        size,
+        el0: 1,
+        kind,
+        spare: [0; 6],
+    }
+}
+
 /// Each mistake alone, and any two of them: the first counts.
 fn same_refusals() {
     let (mut ours, mut plain) = (kernels::memory(), kernels::memory());
     for (first, (number, mistake)) in MISTAKES.into_iter().enumerate() {
         for (_, later) in &MISTAKES[first..] {
-            let mut regime = kernels::regime();
-            let mut access = Access {
-                address: 0x40_0abc,
-                size: 4,
-                el0: 1,
-                kind: READ,
-                spare: [0; 6],
-            };
+            let mut regime = kernels::regime(kernels::MEMORY);
+            let mut access = access(0x40_0abc, 4, READ);
             later(&mut regime, &mut access);
             mistake(&mut regime, &mut access);
 
@@ -190,6 +196,40 @@ fn same_refusals() {
         }
     }
     assert!(ours == plain, "other bytes after a refusal");
+}
+
+/// A memory and a pool of their limits, and more of each. The pool ends at the
+/// memory's limit. A page whose leaf is the pool's last descriptor, and one
+/// whose leaf would be just after it.
+fn same_limits() {
+    let end = LEAF_TABLES << 21;
+    for (length, pool, tags) in [
+        (MEMORY_LIMIT, POOL_LIMIT, [SUCCESS, FAULT]),
+        (MEMORY_LIMIT + 1, POOL_LIMIT, [REFUSED; 2]),
+        (MEMORY_LIMIT, POOL_LIMIT + 4096, [REFUSED; 2]),
+    ] {
+        let mut ours = vec![0; length];
+        let mut regime = kernels::regime(pool);
+        regime.start = MEMORY_LIMIT - pool;
+        fill_to_the_end(&mut ours[regime.start..][..POOL_LIMIT]);
+        let mut plain = ours.clone();
+        for (address, tag) in [end - 1, end].into_iter().zip(tags) {
+            let access = access(address, 1, WRITE);
+            let answer = boundary::walk(&mut ours, &regime, &access);
+            assert_eq!(answer.tag, tag, "{length} {pool}");
+            assert_eq!(answer, plain::walk(&mut plain, &regime, &access));
+        }
+        assert!(ours == plain, "other bytes: {length} {pool}");
+    }
+}
+
+/// The longest pool with a writable-clean leaf in its last 8 bytes, and with a
+/// level 2 descriptor whose table would start at its end.
+fn fill_to_the_end(pool: &mut [u8]) {
+    pool.copy_from_slice(&kernels::long_memory());
+    let end = kernels::POOL_ADDRESS + pool.len() as u64;
+    kernels::put(pool, POOL_LIMIT - 8, 0x0008_0000_8000_03c3);
+    kernels::put(pool, 0x2000 + 8 * LEAF_TABLES as usize, end + 3);
 }
 
 /// Loads and stores, half of them in fewer than 16 bytes.

@@ -9,17 +9,23 @@ use crate::plain;
 /// The addresses of every kernel repeat after so many calls.
 const PERIOD: usize = 512;
 
-/// The bytes of the memory, all of them the pool.
-const MEMORY: usize = 0x1_0000;
-const POOL_ADDRESS: u64 = 0x4000_0000;
+/// The bytes of the memory, all of them the pool. (The kernels of the longest
+/// pool have `plain::POOL_LIMIT`.)
+pub const MEMORY: usize = 0x1_0000;
+pub const POOL_ADDRESS: u64 = 0x4000_0000;
+
+/// The tables of the last level in the longest pool: all but the first three.
+pub const LEAF_TABLES: u64 = (plain::POOL_LIMIT as u64 >> 12) - 3;
 
 #[derive(Clone, Copy, PartialEq)]
 pub enum Kernel {
     Load,
     Store,
     Walk4,
+    Walk4Long,
     Block2,
     Hit,
+    HitLong,
     HitFault,
     Miss,
     SetRegime,
@@ -36,12 +42,14 @@ pub enum Side {
 }
 
 impl Kernel {
-    pub const ALL: [Kernel; 10] = [
+    pub const ALL: [Kernel; 12] = [
         Kernel::Load,
         Kernel::Store,
         Kernel::Walk4,
+        Kernel::Walk4Long,
         Kernel::Block2,
         Kernel::Hit,
+        Kernel::HitLong,
         Kernel::HitFault,
         Kernel::Miss,
         Kernel::SetRegime,
@@ -54,8 +62,10 @@ impl Kernel {
             Kernel::Load => "load",
             Kernel::Store => "store",
             Kernel::Walk4 => "walk4",
+            Kernel::Walk4Long => "walk4-long",
             Kernel::Block2 => "block2",
             Kernel::Hit => "hit",
+            Kernel::HitLong => "hit-long",
             Kernel::HitFault => "hit-fault",
             Kernel::Miss => "miss",
             Kernel::SetRegime => "set-regime",
@@ -73,14 +83,26 @@ impl Kernel {
         match self {
             // 512 pages in a scattered order.
             Kernel::Walk4 => 0x40_0abc + ((i * 37 % 512) << 12),
+            // As many, in all tables of the last level.
+            Kernel::Walk4Long => 0xabc + ((i * 37 % LEAF_TABLES) << 21) + ((i * 101 % 512) << 12),
             // 512 blocks of 2 MiB.
             Kernel::Block2 => 0x4000_0abc + ((i * 37 % 512) << 21),
             // 64 pages, one for each entry.
             Kernel::Hit => 0x40_0abc + ((i * 37 % 64) << 12),
+            // The same, each in a table of its own.
+            Kernel::HitLong => 0xabc + ((i * 37 % 64 * 3) << 21) + ((i * 37 % 64) << 12),
             // 64 read-only pages, one for each entry.
             Kernel::HitFault => 0x60_0abc + ((i * 37 % 64) << 12),
             // Two pages of one entry.
             _ => 0x40_0abc + ((i % 2 * 64) << 12),
+        }
+    }
+
+    /// The memory, all of it the pool.
+    fn memory(self) -> Vec<u8> {
+        match self {
+            Kernel::Walk4Long | Kernel::HitLong => long_memory(),
+            _ => memory(),
         }
     }
 
@@ -104,11 +126,11 @@ impl Side {
     }
 }
 
-/// The regime of the measured calls.
-pub fn regime() -> Regime {
+/// The regime of the measured calls, for a memory of this length.
+pub fn regime(length: usize) -> Regime {
     Regime {
         start: 0,
-        length: MEMORY,
+        length,
         address: POOL_ADDRESS,
         root0: 0x4000_0000,
         root1: 0x4000_0000,
@@ -129,9 +151,7 @@ pub fn regime() -> Regime {
 /// leaf accessed and dirty; and of 64 read-only pages from 0x600000.
 pub fn memory() -> Vec<u8> {
     let mut memory = vec![0; MEMORY];
-    let mut put = |offset: usize, value: u64| {
-        memory[offset..offset + 8].copy_from_slice(&value.to_le_bytes());
-    };
+    let mut put = |offset, value| put(&mut memory, offset, value);
     put(0x0000, 0x4000_1003);
     put(0x1000, 0x4000_2003);
     put(0x1008, 0x4000_4003);
@@ -148,6 +168,29 @@ pub fn memory() -> Vec<u8> {
     memory
 }
 
+/// The longest pool, full of tables: every page from 0 on, as far as its
+/// tables reach, with its leaf accessed and dirty.
+pub fn long_memory() -> Vec<u8> {
+    let mut memory = vec![0; plain::POOL_LIMIT];
+    let mut put = |offset, value| put(&mut memory, offset, value);
+    put(0x0000, 0x4000_1003);
+    put(0x1000, 0x4000_2003);
+    for table in 0..LEAF_TABLES {
+        put(0x2000 + 8 * table as usize, 0x4000_3003 + (table << 12));
+    }
+    for page in 0..LEAF_TABLES * 512 {
+        put(
+            0x3000 + 8 * page as usize,
+            0x0008_0000_8000_0743 + (page << 12),
+        );
+    }
+    memory
+}
+
+pub fn put(memory: &mut [u8], offset: usize, value: u64) {
+    memory[offset..offset + 8].copy_from_slice(&value.to_le_bytes());
+}
+
 /// A memory and a session for each side.
 pub struct Bed {
     regime: Regime,
@@ -160,10 +203,11 @@ pub struct Bed {
 impl Bed {
     /// Ready for the calls of `kernel`, its 64 pages remembered for a hit.
     pub fn new(kernel: Kernel) -> Bed {
+        let memory = kernel.memory();
         let mut bed = Bed {
-            regime: regime(),
+            regime: regime(memory.len()),
             addresses: array::from_fn(|i| kernel.address(i as u64)),
-            memory: [memory(), memory()],
+            memory: [memory.clone(), memory],
             ours: boundary::Session::empty(),
             plain: plain::Session::empty(),
         };
@@ -172,7 +216,7 @@ impl Bed {
             bed.plain.set_regime(&bed.memory[1], &bed.regime),
         ];
         assert_eq!(refusals, [0, 0]);
-        if matches!(kernel, Kernel::Hit | Kernel::HitFault) {
+        if matches!(kernel, Kernel::Hit | Kernel::HitLong | Kernel::HitFault) {
             bed.run(kernel, Side::Ours, 64);
             bed.run(kernel, Side::Plain, 64);
         }
@@ -206,22 +250,22 @@ impl Bed {
                 plain::store(plain_memory, at, at as u64);
                 0
             }),
-            (Kernel::Walk4 | Kernel::Block2, Side::Ours) => {
+            (Kernel::Walk4 | Kernel::Walk4Long | Kernel::Block2, Side::Ours) => {
                 answers(calls, kind, addresses, move |access| {
                     boundary::walk(memory, black_box(regime), access)
                 })
             }
-            (Kernel::Walk4 | Kernel::Block2, Side::Plain) => {
+            (Kernel::Walk4 | Kernel::Walk4Long | Kernel::Block2, Side::Plain) => {
                 answers(calls, kind, addresses, move |access| {
                     plain::walk(plain_memory, black_box(regime), access)
                 })
             }
-            (Kernel::Hit | Kernel::HitFault | Kernel::Miss, Side::Ours) => {
+            (Kernel::Hit | Kernel::HitLong | Kernel::HitFault | Kernel::Miss, Side::Ours) => {
                 answers(calls, kind, addresses, move |access| {
                     black_box(&mut *ours).access(memory, access)
                 })
             }
-            (Kernel::Hit | Kernel::HitFault | Kernel::Miss, Side::Plain) => {
+            (Kernel::Hit | Kernel::HitLong | Kernel::HitFault | Kernel::Miss, Side::Plain) => {
                 answers(calls, kind, addresses, move |access| {
                     black_box(&mut *plain).access(plain_memory, access)
                 })

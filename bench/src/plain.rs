@@ -4,8 +4,8 @@
 use crate::boundary::{Access, Answer, Regime};
 use crate::boundary::{FAULT, FETCH, PROBE_READ, PROBE_WRITE, READ, REFUSED, SUCCESS};
 
-const MEMORY_LIMIT: usize = 1 << 20;
-const POOL_LIMIT: usize = 1 << 16;
+pub const MEMORY_LIMIT: usize = 1 << 24;
+pub const POOL_LIMIT: usize = 1 << 20;
 const OUTPUT_LIMITS: [u64; 6] = [1 << 32, 1 << 36, 1 << 40, 1 << 42, 1 << 44, 1 << 48];
 
 const ADDRESS_SIZE: u16 = 0;

@@ -13,7 +13,8 @@
 
 #define AP2 (UINT64_C(1) << 7)
 
-static uint8_t memory[VMSA_POOL_LIMIT];
+/* Exactly the pool, which may have up to VMSA_POOL_LIMIT bytes. */
+static uint8_t memory[0x10000];
 
 static void put(uint64_t address, uint64_t value)
 {
@@ -142,7 +143,7 @@ static void a_session(const struct vmsa_regime *regime)
     write_page("write, re-armed", &session);
     print_reply("store past the pool",
                 vmsa_session_store(&session, memory, sizeof memory,
-                                   POOL + VMSA_POOL_LIMIT, 0));
+                                   POOL + sizeof memory, 0));
     printf("leaf 0x%016" PRIx64 "\n", get(LEAF));
 }
 

@@ -10,11 +10,26 @@
 #include "vmsa.h"
 
 #define WORLDS 1000
+#define LARGE 4   /* of them are as large as can be */
 #define CALLS 500 /* in each world */
-#define PAGES 18u /* of the memory; a pool has at most 16 */
-#define BYTES (PAGES * 4096u)
 
-static uint8_t memory[BYTES];
+/*
+ * How large a world is, in pages. The pool lies near the end of the memory:
+ * its start is one of the last three that it can have.
+ */
+struct extent {
+    unsigned memory;
+    unsigned pool; /* as a rule */
+    int looks;     /* how often all its memory goes into the number */
+};
+
+static const struct extent usual = { 18, 16, 10 };
+static const struct extent largest = {
+    VMSA_MEMORY_LIMIT / 4096, VMSA_POOL_LIMIT / 4096, 1
+};
+
+static struct extent extent;
+static uint8_t memory[VMSA_MEMORY_LIMIT];
 static uint64_t pool;             /* its physical address, as a rule */
 static struct vmsa_regime regime; /* the last one that was accepted */
 static struct vmsa_session session;
@@ -89,6 +104,17 @@ static void add_answer(const struct vmsa_answer *answer)
 
 /* A world: tables with entries at a few indexes, and a regime. */
 
+static size_t memory_bytes(void)
+{
+    return (size_t)extent.memory * 4096;
+}
+
+/* The first page of the memory that may be the pool's. */
+static unsigned first_page(void)
+{
+    return extent.memory - extent.pool - 2;
+}
+
 static const unsigned indexes[] = { 0, 1, 2, 3, 511 };
 #define INDEXES (sizeof indexes / sizeof indexes[0])
 
@@ -98,7 +124,7 @@ static uint64_t descriptor(void)
     unsigned which = below(32);
     uint64_t value = next();
     uint64_t flags = value & UINT64_C(0x0078000000000FFC);
-    unsigned page = below(which == 0 ? 64 : 16);
+    uint64_t page = below(which == 0 ? 4 * extent.pool : extent.pool);
 
     if (which == 1)
         return value;
@@ -117,7 +143,7 @@ static void build_tables(void)
     size_t page, i;
     int byte;
 
-    for (page = 0; page < PAGES; page++)
+    for (page = first_page(); page < extent.memory; page++)
         for (i = 0; i < INDEXES; i++) {
             value = descriptor();
             for (byte = 0; byte < 8; byte++)
@@ -156,11 +182,13 @@ static struct vmsa_regime random_regime(void)
 {
     struct vmsa_regime r;
 
-    r.start = pages_below(3);
-    r.length = one_in(8) ? pages_below(18) : VMSA_POOL_LIMIT;
+    r.start = 4096 * first_page() + pages_below(3);
+    r.length = 4096 * extent.pool;
+    if (one_in(8))
+        r.length = one_in(2) ? pages_below(extent.pool + 2) : r.length + 4096;
     r.address = one_in(16) ? pool + pages_below(2) : pool;
-    r.root0 = pool + pages_below(16);
-    r.root1 = pool + pages_below(16);
+    r.root0 = pool + pages_below(extent.pool);
+    r.root1 = pool + pages_below(extent.pool);
     r.attributes = attributes();
     r.tsz0 = size_field();
     r.tsz1 = size_field();
@@ -221,7 +249,7 @@ static struct vmsa_access random_access(void)
 
 static size_t length_now(void)
 {
-    return one_in(50) ? below(BYTES) : BYTES;
+    return one_in(50) ? below((unsigned)memory_bytes()) : memory_bytes();
 }
 
 static void set_regime(void)
@@ -237,7 +265,7 @@ static void set_regime(void)
 
 static void store(void)
 {
-    uint64_t at = pool + pages_below(17);
+    uint64_t at = pool + pages_below(extent.pool + 1);
     uint64_t value = descriptor();
     size_t length = length_now();
 
@@ -288,9 +316,9 @@ static void run_world(void)
 {
     int i;
 
-    pool = one_in(8) ? (UINT64_C(1) << 48) - VMSA_POOL_LIMIT : 0x40000000u;
+    pool = one_in(8) ? (UINT64_C(1) << 48) - 4096 * extent.pool : 0x40000000u;
     regime = random_regime();
-    memset(memory, 0, sizeof memory);
+    memset(memory, 0, memory_bytes());
     build_tables();
     memset(&session, 0xAA, sizeof session);
     vmsa_session_empty(&session);
@@ -298,9 +326,9 @@ static void run_world(void)
         set_regime();
     for (i = 0; i < CALLS; i++) {
         call();
-        if (i % 50 == 0) {
+        if ((i + 1) % (CALLS / extent.looks) == 0) {
             add(&session, sizeof session);
-            add(memory, sizeof memory);
+            add(memory, memory_bytes());
         }
     }
 }
@@ -309,8 +337,10 @@ int main(void)
 {
     int i;
 
-    for (i = 0; i < WORLDS; i++)
+    for (i = 0; i < WORLDS; i++) {
+        extent = i < LARGE ? largest : usual;
         run_world();
+    }
     printf("%u successes (%u set the Access flag, %u marked dirty), %u faults, "
            "%u of both from an entry\n",
            successes, accessed, dirtied, faults, held);

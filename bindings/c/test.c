@@ -1,7 +1,7 @@
 /*
- * Runs the library over the worked cases P1 to P12, every refusal, a script of
- * a session, the spare bytes, VMSA_REGIME_INIT and the texts; prints how many
- * checks were made, and how many failed.
+ * Runs the library over the worked cases P1 to P12, every refusal, the largest
+ * pool and memory, a script of a session, the spare bytes, VMSA_REGIME_INIT and
+ * the texts; prints how many checks were made, and how many failed.
  *
  * Each call goes through one of the expect functions. It takes what the call
  * is given and its answer; want has what the call is to leave of memory and
@@ -14,6 +14,7 @@
 #include "vmsa.h"
 
 #define POOL UINT64_C(0x40000000)  /* physical address of the pool */
+#define LENGTH 65536u              /* bytes of the pool, and of the memory */
 #define THIRD UINT64_C(0x40002010) /* of the level 2 descriptor */
 #define LEAF UINT64_C(0x40003018)  /* of the leaf descriptor of page 0x403 */
 #define PAGE 0x403
@@ -29,14 +30,17 @@
 
 /*
  * What the calls are lent, and what it is to be afterwards. The memory starts
- * at an odd address, between two guards.
+ * at an odd address, between two guards, in one of two rooms: the large one is
+ * for the few checks that need it, since each compares every byte.
  */
 #define GUARD 63
 
 static struct world {
-    uint8_t room[GUARD + VMSA_MEMORY_LIMIT + 1 + GUARD];
-    size_t length;
     struct vmsa_session session;
+    size_t length; /* of the memory lent; no call changes it */
+    uint8_t *room;
+    uint8_t usual[GUARD + 2 * LENGTH + GUARD];
+    uint8_t large[GUARD + VMSA_MEMORY_LIMIT + 1 + GUARD];
 } lent, want;
 
 /* Checks */
@@ -56,14 +60,16 @@ static void check_bytes(const char *name, const char *part, const void *got,
                         const void *expected, size_t size)
 {
     const uint8_t *a = (const uint8_t *)got, *b = (const uint8_t *)expected;
+    const int same = memcmp(a, b, size) == 0;
     size_t i = 0;
 
-    check(name, part, memcmp(a, b, size) == 0);
-    while (i < size && a[i] == b[i])
+    check(name, part, same);
+    if (same)
+        return;
+    while (a[i] == b[i])
         i++;
-    if (i < size)
-        printf("    byte %lu is 0x%02x and not 0x%02x\n", (unsigned long)i,
-               (unsigned)a[i], (unsigned)b[i]);
+    printf("    byte %lu is 0x%02x and not 0x%02x\n", (unsigned long)i,
+           (unsigned)a[i], (unsigned)b[i]);
 }
 
 static void check_world(const char *name)
@@ -205,7 +211,7 @@ static struct vmsa_regime worked_regime(void)
 {
     struct vmsa_regime regime = VMSA_REGIME_INIT;
 
-    regime.length = VMSA_POOL_LIMIT;
+    regime.length = LENGTH;
     regime.address = POOL;
     regime.root0 = POOL;
     regime.root1 = POOL;
@@ -217,7 +223,7 @@ static struct vmsa_regime worked_regime(void)
     return regime;
 }
 
-/* A descriptor at an address of the pool. */
+/* A descriptor at a physical address; the memory's first byte is at POOL. */
 static void put(struct world *world, uint64_t address, uint64_t value)
 {
     int i;
@@ -234,23 +240,35 @@ static void given(uint64_t address, uint64_t value)
     put(&want, address, value);
 }
 
-/* The memory of the worked cases, exactly the pool, and the fresh session. */
-static void fresh(void)
+/* The fresh session, and in both rooms so many zeros, 0x5A around them. */
+static void lend(uint8_t *room, uint8_t *wanted, size_t size, size_t zeros)
 {
     const struct vmsa_regime init = VMSA_REGIME_INIT;
 
-    memset(&want, 0, sizeof want);
-    memset(want.room, 0x5A, GUARD);
-    memset(want.room + GUARD + VMSA_POOL_LIMIT, 0x5A,
-           sizeof want.room - GUARD - VMSA_POOL_LIMIT);
-    want.length = VMSA_POOL_LIMIT;
+    memset(wanted, 0x5A, size);
+    memset(wanted + GUARD, 0, zeros);
+    memcpy(room, wanted, size);
+    lent.room = room;
+    want.room = wanted;
+    lent.length = zeros;
+    memset(&want.session, 0, sizeof want.session);
     want.session.regime = init;
-    put(&want, POOL, 0x40001003);
-    put(&want, 0x40001000, 0x40002003);
-    put(&want, THIRD, TABLE);
-    put(&want, LEAF, CLEAN);
-    lent = want;
     vmsa_session_empty(&lent.session);
+}
+
+static void given_tables(void)
+{
+    given(POOL, 0x40001003);
+    given(0x40001000, 0x40002003);
+    given(THIRD, TABLE);
+    given(LEAF, CLEAN);
+}
+
+/* The memory of the worked cases, exactly the pool, and the fresh session. */
+static void fresh(void)
+{
+    lend(lent.usual, want.usual, sizeof want.usual, LENGTH);
+    given_tables();
 }
 
 /* What the session is to hold of a page whose leaf is at level 3. */
@@ -360,22 +378,36 @@ static void test_worked(void)
     }
 }
 
-static void test_worked_pool(void)
+static void test_worked_leaf(void)
 {
-    struct vmsa_regime regime = worked_regime();
-
     /* P6 reads at 0x4000F018: a leaf there is found. */
     fresh();
     given(THIRD, 0x4000F003);
     given(0x4000F018, CLEAN);
     put(&want, 0x4000F018, READ);
-    expect_walk("P6, a leaf", regime, a_read(), found(FRAME + 0xABC, AF, 4));
+    expect_walk("P6, a leaf", worked_regime(), a_read(),
+                found(FRAME + 0xABC, AF, 4));
+}
 
-    fresh();
-    lent.length = 69632;
+/* The worked cases over a pool, and so a memory, of another length. */
+static struct vmsa_regime fresh_of(size_t length)
+{
+    struct vmsa_regime regime = worked_regime();
+
+    lend(lent.large, want.large, GUARD + length + GUARD, length);
+    given_tables();
+    regime.length = length;
+    return regime;
+}
+
+/* P12 has the limit, and a page more, as numbers. */
+static void test_worked_limit(void)
+{
+    struct vmsa_regime regime = fresh_of(1048576);
+
     put(&want, LEAF, READ);
     expect_walk("P12", regime, a_read(), found(FRAME + 0xABC, AF, 4));
-    regime.length = 69632;
+    regime = fresh_of(1052672);
     expect_walk("P12, next", regime, a_read(), refused(1));
 }
 
@@ -395,28 +427,27 @@ static void test_refused_pool(void)
 {
     struct vmsa_regime regime = worked_regime();
 
-    refuses("memory above its limit", 1, VMSA_MEMORY_LIMIT + 1, regime);
     refuses("no memory", 1, 0, regime);
-    refuses("pool past the memory", 1, VMSA_POOL_LIMIT - 1, regime);
+    refuses("pool past the memory", 1, LENGTH - 1, regime);
     regime.start = 4096;
-    refuses("pool past the memory, moved", 1, VMSA_POOL_LIMIT + 4095, regime);
+    refuses("pool past the memory, moved", 1, LENGTH + 4095, regime);
     regime.start = SIZE_MAX - 4095;
-    refuses("pool past the memory, wrapped", 1, VMSA_POOL_LIMIT, regime);
+    refuses("pool past the memory, wrapped", 1, LENGTH, regime);
     regime.start = 8;
-    refuses("start", 1, 2 * VMSA_POOL_LIMIT, regime);
+    refuses("start", 1, 2 * LENGTH, regime);
     regime.start = 0;
     regime.length = 0;
-    refuses("empty pool", 1, VMSA_POOL_LIMIT, regime);
+    refuses("empty pool", 1, LENGTH, regime);
     regime.length = 4095;
-    refuses("pool length", 1, VMSA_POOL_LIMIT, regime);
+    refuses("pool length", 1, LENGTH, regime);
 
     regime = worked_regime();
     regime.address = POOL + 8;
-    refuses("pool address", 2, VMSA_POOL_LIMIT, regime);
-    regime.address = LIMIT48 - VMSA_POOL_LIMIT + 4096;
-    refuses("pool above 2^48", 2, VMSA_POOL_LIMIT, regime);
+    refuses("pool address", 2, LENGTH, regime);
+    regime.address = LIMIT48 - LENGTH + 4096;
+    refuses("pool above 2^48", 2, LENGTH, regime);
     regime.address = ~UINT64_C(4095);
-    refuses("pool above 2^48, wrapped", 2, VMSA_POOL_LIMIT, regime);
+    refuses("pool above 2^48, wrapped", 2, LENGTH, regime);
 }
 
 static void test_refused_sizes(void)
@@ -428,15 +459,15 @@ static void test_refused_sizes(void)
     for (i = 0; i < sizeof sizes; i++) {
         regime = worked_regime();
         regime.tsz0 = sizes[i];
-        refuses("tsz0", 3, VMSA_POOL_LIMIT, regime);
+        refuses("tsz0", 3, LENGTH, regime);
         regime = worked_regime();
         regime.tsz1 = sizes[i];
         regime.disabled1 = 1;
-        refuses("tsz1", 3, VMSA_POOL_LIMIT, regime);
+        refuses("tsz1", 3, LENGTH, regime);
     }
     regime = worked_regime();
     regime.output = 6;
-    refuses("output", 3, VMSA_POOL_LIMIT, regime);
+    refuses("output", 3, LENGTH, regime);
 }
 
 static void test_refused_roots(void)
@@ -448,11 +479,11 @@ static void test_refused_roots(void)
     for (i = 0; i < sizeof roots / sizeof roots[0]; i++) {
         regime = worked_regime();
         regime.root0 = roots[i];
-        refuses("root0", 4, VMSA_POOL_LIMIT, regime);
+        refuses("root0", 4, LENGTH, regime);
         regime = worked_regime();
         regime.root1 = roots[i];
         regime.disabled1 = 1;
-        refuses("root1", 4, VMSA_POOL_LIMIT, regime);
+        refuses("root1", 4, LENGTH, regime);
     }
 }
 
@@ -467,7 +498,7 @@ static void test_refused_attributes(void)
 
             regime.attributes &= ~(UINT64_C(0xFF) << (8 * byte));
             regime.attributes |= (uint64_t)attributes[i] << (8 * byte);
-            refuses("attributes", 5, VMSA_POOL_LIMIT, regime);
+            refuses("attributes", 5, LENGTH, regime);
         }
 }
 
@@ -504,7 +535,7 @@ static void test_updates(void)
             regime.ha = flags[ha];
             regime.hd = flags[hd];
             if (regime.hd != 0 && regime.ha == 0)
-                refuses("hd without ha", 13, VMSA_POOL_LIMIT, regime);
+                refuses("hd without ha", 13, LENGTH, regime);
             else
                 takes_updates(regime);
         }
@@ -540,7 +571,7 @@ static void test_refused_access(void)
 static void test_refused_calls(void)
 {
     static const uint64_t addresses[] = {
-        LEAF + 4, POOL - 8, POOL + VMSA_POOL_LIMIT, 0, ~UINT64_C(7)
+        LEAF + 4, POOL - 8, POOL + LENGTH, 0, ~UINT64_C(7)
     };
     size_t i;
 
@@ -553,7 +584,7 @@ static void test_refused_calls(void)
     expect_store("store, no regime", LEAF, 1, 9);
 
     started();
-    lent.length = VMSA_POOL_LIMIT - 1;
+    lent.length = LENGTH - 1;
     expect_access("access, short memory", a_read(), refused(1));
     expect_store("store, short memory", LEAF, 1, 1);
     lent.length = 0;
@@ -600,6 +631,123 @@ static void test_refusal_order(void)
     access.size = 1;
     put(&want, LEAF, READ);
     expect_walk("order, mended", regime, access, found(FRAME + 0xFFF, AF, 4));
+}
+
+/* The largest pool, in the largest memory */
+
+#define LAST UINT64_C(0x5FFABC) /* its leaf is the pool's last descriptor */
+#define NEXT UINT64_C(0x600ABC) /* its leaf would be the one past the pool */
+
+static struct vmsa_regime largest_regime(uint64_t pool)
+{
+    struct vmsa_regime regime = worked_regime();
+
+    regime.start = (size_t)(pool - POOL);
+    regime.length = VMSA_POOL_LIMIT;
+    regime.address = pool;
+    regime.root0 = pool;
+    regime.root1 = pool;
+    return regime;
+}
+
+/*
+ * Tables in a pool at an address: a leaf at its very end, and one right behind
+ * it. Bytes of 0x5A are around them, and make no valid descriptor.
+ */
+static void fresh_largest(uint64_t pool)
+{
+    const uint64_t end = pool + VMSA_POOL_LIMIT;
+
+    lend(lent.large, want.large, sizeof want.large, 0);
+    lent.length = VMSA_MEMORY_LIMIT;
+    given(pool, (pool + 0x1000) | 3);
+    given(pool + 0x1000, (pool + 0x2000) | 3);
+    given(pool + 0x2010, (end - 0x1000) | 3);
+    given(pool + 0x2018, end | 3);
+    given(end - 8, CLEAN);
+    given(end, CLEAN);
+}
+
+static void started_largest(uint64_t pool)
+{
+    fresh_largest(pool);
+    want.session.regime = largest_regime(pool);
+    want.session.set = 1;
+    expect_set("largest", largest_regime(pool), VMSA_ACCEPTED);
+}
+
+static void largest_walk(uint64_t pool)
+{
+    const struct vmsa_regime regime = largest_regime(pool);
+    const uint64_t last = pool + VMSA_POOL_LIMIT - 8;
+
+    fresh_largest(pool);
+    put(&want, last, READ);
+    expect_walk("last, read", regime, access_of(VMSA_READ, LAST, 4),
+                found(FRAME + 0xABC, AF, 4));
+    put(&want, last, DIRTY);
+    expect_walk("last, write", regime, access_of(VMSA_WRITE, LAST, 4),
+                found(FRAME + 0xABC, DIRTIED, 4));
+    expect_walk("past the pool", regime, access_of(VMSA_WRITE, NEXT, 4),
+                fault(23, 3, 4));
+}
+
+static void largest_session(uint64_t pool)
+{
+    const uint64_t last = pool + VMSA_POOL_LIMIT - 8;
+
+    started_largest(pool);
+    put(&want, last, READ);
+    holds(LAST >> 12, READ);
+    expect_access("last, read", access_of(VMSA_READ, LAST, 4),
+                  found(FRAME + 0xABC, AF, 4));
+    put(&want, last, DIRTY);
+    holds(LAST >> 12, DIRTY);
+    expect_access("last, write", access_of(VMSA_WRITE, LAST, 4),
+                  found(FRAME + 0xABC, DIRTIED, 4));
+    expect_access("past the pool", access_of(VMSA_WRITE, NEXT, 4),
+                  fault(23, 3, 4));
+    put(&want, last, 0);
+    expect_store("last, store", last, 0, VMSA_ACCEPTED);
+    expect_store("past the pool, store", last + 8, 0, 8);
+}
+
+/* At the start of the memory, and at its very end. */
+static void test_largest(void)
+{
+    const uint64_t end = POOL + VMSA_MEMORY_LIMIT;
+
+    largest_walk(POOL);
+    largest_session(POOL);
+    largest_walk(end - VMSA_POOL_LIMIT);
+    largest_session(end - VMSA_POOL_LIMIT);
+}
+
+/* Refused with 1 by each call that checks the memory. */
+static void refuses_memory(const char *name, struct vmsa_regime regime)
+{
+    const struct vmsa_access access = access_of(VMSA_READ, LAST, 4);
+
+    expect_walk(name, regime, access, refused(1));
+    expect_set(name, regime, 1);
+    expect_access(name, access, refused(1));
+    expect_store(name, POOL, 0, 1);
+}
+
+/* A byte more of memory; a page more of pool, in the session's bytes too. */
+static void test_above_limits(void)
+{
+    struct vmsa_regime regime = largest_regime(POOL);
+
+    started_largest(POOL);
+    lent.length = VMSA_MEMORY_LIMIT + 1;
+    refuses_memory("memory above its limit", regime);
+
+    lent.length = VMSA_MEMORY_LIMIT;
+    regime.length = VMSA_POOL_LIMIT + 4096;
+    lent.session.regime.length = VMSA_POOL_LIMIT + 4096;
+    want.session = lent.session;
+    refuses_memory("pool above its limit", regime);
 }
 
 /* A session */
@@ -813,10 +961,10 @@ static void test_init(void)
     struct vmsa_regime regime = VMSA_REGIME_INIT;
     struct vmsa_regime zeroed = { 0 };
 
-    refuses("init, no pool", 1, VMSA_POOL_LIMIT, regime);
-    regime.length = VMSA_POOL_LIMIT;
-    zeroed.length = VMSA_POOL_LIMIT;
-    refuses("zeroed", 3, VMSA_POOL_LIMIT, zeroed);
+    refuses("init, no pool", 1, LENGTH, regime);
+    regime.length = LENGTH;
+    zeroed.length = LENGTH;
+    refuses("zeroed", 3, LENGTH, zeroed);
 
     fresh();
     expect_walk("init, range 0", regime, a_read(), fault(4, 0, 0));
@@ -909,7 +1057,8 @@ int main(void)
 {
     check("library", "version", vmsa_version() == VMSA_VERSION);
     test_worked();
-    test_worked_pool();
+    test_worked_leaf();
+    test_worked_limit();
     test_refused_pool();
     test_refused_sizes();
     test_refused_roots();
@@ -918,6 +1067,8 @@ int main(void)
     test_refused_access();
     test_refused_calls();
     test_refusal_order();
+    test_largest();
+    test_above_limits();
     test_script();
     test_entries();
     test_odd_values();

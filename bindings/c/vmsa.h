@@ -70,11 +70,11 @@ extern "C" {
 #endif
 
 /* The version of this interface; vmsa_version() gives the library's. */
-#define VMSA_VERSION 5u
+#define VMSA_VERSION 6u
 
 /* The most bytes of a lent memory, and of a pool. */
-#define VMSA_MEMORY_LIMIT 1048576u
-#define VMSA_POOL_LIMIT 65536u
+#define VMSA_MEMORY_LIMIT 16777216u
+#define VMSA_POOL_LIMIT 1048576u
 
 /* The TLB entries of a session. */
 #define VMSA_ENTRIES 64

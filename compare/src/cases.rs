@@ -3,6 +3,7 @@
 mod edges;
 mod large;
 mod noise;
+mod pools;
 mod refusals;
 mod rights;
 pub mod scene;
@@ -61,5 +62,6 @@ pub fn run_all(seed: u64, runner: &mut dyn Runner) {
     edges::run(&mut maker);
     noise::run(&mut maker);
     refusals::run(&mut maker);
+    pools::run(&mut maker);
     large::run(&mut maker);
 }

@@ -4,6 +4,7 @@
 pub mod boundary;
 pub mod cases;
 pub mod counts;
+pub mod limits;
 pub mod promises;
 pub mod random;
 pub mod reference;

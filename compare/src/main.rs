@@ -101,8 +101,8 @@ fn compare_scripts(seed: u64, trace: bool) -> bool {
     if !tally.report() {
         return false;
     }
-    let (scripts, calls) = (scripts::SCRIPTS, scripts::CALLS);
-    println!("compared {scripts} scripts of {calls} calls, 0 differences");
+    let (scripts, calls) = (tally.scripts(), tally.calls());
+    println!("compared {scripts} scripts, {calls} calls, 0 differences");
     true
 }
 

@@ -1,9 +1,9 @@
 //! The second walker: stage 1, EL1&0, 4 KiB granule.
 //!
 //! It was written from document 01 of the customer; what the customer's
-//! requests change (so far Q-6) from these and from docs/RULES.md. It shares
-//! nothing with the library or its bindings. The places cited are those of
-//! docs/RULES.md, which says the same in numbered sections.
+//! requests change (so far) from these and from docs/RULES.md. It
+//! shares nothing with the library or its bindings. The places cited are those
+//! of docs/RULES.md, which says the same in numbered sections.
 //!
 //! One loop goes down the levels and keeps the list of descriptor addresses;
 //! sums that could pass 2^64 are made in 128 bits.
@@ -13,9 +13,9 @@ use crate::refusals;
 /// Bytes in a granule: the size of a page and of a table.
 pub const GRANULE: u64 = 4096;
 /// Longest memory that may be lent (RULES 2.1).
-pub const MEMORY_LIMIT: usize = 1_048_576;
+pub const MEMORY_LIMIT: usize = 16_777_216;
 /// Longest pool (RULES 2.2).
-pub const POOL_LIMIT: usize = 65_536;
+pub const POOL_LIMIT: usize = 1_048_576;
 /// Physical addresses lie below this (RULES 5.1, rows 2 and 4).
 pub const PHYSICAL_LIMIT: u64 = 1 << 48;
 /// Bits 47..12: where descriptors keep an address (RULES 6.2).
@@ -402,42 +402,57 @@ pub fn settle(regime: &Regime, access: &Access, leaf: &Leaf, reads: u8) -> (Answ
 /// The plain walk: its refusals, its steps, its marks.
 pub fn walk(memory: &mut [u8], regime: &Regime, access: &Access) -> Walk {
     match refusals::of_walk(memory.len(), regime, access) {
-        Some(number) => Walk {
-            answer: Answer::Refused(number),
-            visited: Vec::new(),
-            leaf: None,
-        },
+        Some(number) => refused(number),
         None => walk_on(memory, regime, access),
+    }
+}
+
+/// The plain walk over a memory that stays as it is: all but its marks.
+pub fn look(memory: &[u8], regime: &Regime, access: &Access) -> Walk {
+    match refusals::of_walk(memory.len(), regime, access) {
+        Some(number) => refused(number),
+        None => steps(memory, regime, access).0,
+    }
+}
+
+fn refused(number: u8) -> Walk {
+    Walk {
+        answer: Answer::Refused(number),
+        visited: Vec::new(),
+        leaf: None,
     }
 }
 
 /// The steps and marks of a walk that is not refused. Rows 1, 3, 4, 6 and 7
 /// must not apply; under the others the regime is used as it is (RULES 10.5).
 pub fn walk_on(memory: &mut [u8], regime: &Regime, access: &Access) -> Walk {
+    let (walk, after) = steps(memory, regime, access);
+    if let Some((_, offset)) = walk.leaf {
+        write_descriptor(memory, offset, after);
+    }
+    walk
+}
+
+/// The same without the marks, and the leaf's descriptor as they leave it.
+fn steps(memory: &[u8], regime: &Regime, access: &Access) -> (Walk, u64) {
     let mut visited = Vec::with_capacity(4);
     let found = find_leaf(memory, regime, access.address, &mut visited);
     let reads = visited.len() as u8;
-    match found {
+    let (answer, after) = match found {
+        Ok((leaf, _)) => settle(regime, access, &leaf, reads),
         Err(stop) => {
             let fault = Fault {
                 stop,
                 rememberable: false,
                 reads,
             };
-            Walk {
-                answer: Answer::Fault(fault),
-                visited,
-                leaf: None,
-            }
+            (Answer::Fault(fault), 0)
         }
-        Ok((leaf, offset)) => {
-            let (answer, after) = settle(regime, access, &leaf, reads);
-            write_descriptor(memory, offset, after);
-            Walk {
-                answer,
-                visited,
-                leaf: Some((leaf, offset)),
-            }
-        }
-    }
+    };
+    let walk = Walk {
+        answer,
+        visited,
+        leaf: found.ok(),
+    };
+    (walk, after)
 }

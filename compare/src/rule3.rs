@@ -2,7 +2,7 @@
 //! here looks into a session: what it remembers is read off its replies.
 
 use crate::boundary::{plain_answer, CAnswer, Reply, REFUSED};
-use crate::reference::{offset_in_memory, walk, write_descriptor, Access, Regime};
+use crate::reference::{look, offset_in_memory, walk, write_descriptor, Access, Regime};
 use crate::refusals;
 use crate::session::{page_of, place_of, Call};
 
@@ -309,8 +309,8 @@ impl<'a> Past<'a> {
         let regime = self.history.before(earlier).regime();
         let regime = regime.ok_or("second half: remembered before any regime")?;
         let event = &self.events[earlier];
-        let mut memory = self.history.left(event)[..event.lent].to_vec();
-        let answer = plain_answer(&walk(&mut memory, &regime, access).answer);
+        let memory = &self.history.left(event)[..event.lent];
+        let answer = plain_answer(&look(memory, &regime, access).answer);
         Ok(CAnswer { reads: 0, ..answer })
     }
 }

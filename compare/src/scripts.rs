@@ -2,6 +2,7 @@
 
 mod calls;
 mod features;
+mod opening;
 mod play;
 mod tally;
 mod world;
@@ -14,8 +15,9 @@ pub(crate) use play::Arena;
 use play::Play;
 pub use tally::Tally;
 
-pub const SCRIPTS: u64 = 6_000;
-pub const CALLS: usize = 40;
+const SCRIPTS: u64 = 6_000;
+/// Calls of a script; over the longest memories there are fewer.
+const CALLS: usize = 40;
 
 /// A call and how it is made.
 #[derive(Clone, Copy, Debug)]

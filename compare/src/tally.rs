@@ -4,9 +4,11 @@
 use crate::boundary::{CAnswer, FAULT, REFUSED, SUCCESS};
 use crate::cases::Case;
 use crate::counts::{report_families, Countable, Counts};
+use crate::limits::{self, Limit, Octave, POOL_GRANULES};
 use crate::reference::{
     bit, first_level, is_device, leaf_address, offset_in_memory, output_limit, read_descriptor,
-    Access, Answer, FaultKind, Kind, Leaf, Regime, Walk, ADDRESS_FIELD, GRANULE, MEMORY_LIMIT,
+    Access, Answer, FaultKind, Kind, Leaf, Pool, Regime, Walk, ADDRESS_FIELD, GRANULE,
+    MEMORY_LIMIT, POOL_LIMIT,
 };
 use crate::refusals::{all_of_walk, pairs, WALK};
 use std::collections::{BTreeMap, BTreeSet};
@@ -47,9 +49,7 @@ pub enum Place {
     PoolAtZero,
     /// Success in a pool that ends at 2^48.
     PoolAtTop,
-    /// Walked in a memory of 1,048,576 bytes.
-    LongestMemory,
-    /// Walked in a memory of 4,096 bytes.
+    /// Walked in a memory of one granule.
     ShortestMemory,
     /// Success where truth is spelled with a byte other than 1.
     OddTruth,
@@ -88,7 +88,14 @@ pub enum Feature {
     Shareability(u8),
     NonGlobal(bool),
     /// Success by the pool's length in granules.
-    Granules(u8),
+    Granules(u64),
+    /// A table descriptor on the way to a success, by its place in the pool.
+    Table(Octave),
+    /// A marked leaf, by its place in the pool.
+    Marked(Octave),
+    /// The same by its place in the memory.
+    MarkedInMemory(Octave),
+    Limit(Limit),
     Place(Place),
 }
 
@@ -116,6 +123,10 @@ impl Countable for Feature {
             F::Shareability(_) => "successes by shareability",
             F::NonGlobal(_) => "successes by nG",
             F::Granules(_) => "successes by granules in the pool",
+            F::Table(_) => "tables followed, by granule of the pool",
+            F::Marked(_) => "leaves marked, by granule of the pool",
+            F::MarkedInMemory(_) => "leaves marked, by granule of the memory",
+            F::Limit(_) => "limits of memory and pool",
             F::Place(_) => "places",
         }
     }
@@ -181,6 +192,10 @@ impl fmt::Display for Feature {
             F::Shareability(value) => write!(out, "{value}"),
             F::NonGlobal(value) => write!(out, "{}", u8::from(value)),
             F::Granules(count) => write!(out, "{count}"),
+            F::Table(octave) | F::Marked(octave) | F::MarkedInMemory(octave) => {
+                write!(out, "{octave}")
+            }
+            F::Limit(limit) => write!(out, "{limit:?}"),
             F::Place(place) => write!(out, "{place:?}"),
         }
     }
@@ -286,7 +301,7 @@ fn possible() -> BTreeSet<Feature> {
     }
     all.extend((0..4).map(F::Shareability));
     all.extend([false, true].map(F::NonGlobal));
-    all.extend((1..=16).map(F::Granules));
+    lengths(&mut all);
     all.extend(
         [
             Place::FirstOfPool,
@@ -297,7 +312,6 @@ fn possible() -> BTreeSet<Feature> {
             Place::AllOnes,
             Place::PoolAtZero,
             Place::PoolAtTop,
-            Place::LongestMemory,
             Place::ShortestMemory,
             Place::OddTruth,
             Place::OddKind,
@@ -305,6 +319,18 @@ fn possible() -> BTreeSet<Feature> {
         .map(F::Place),
     );
     all
+}
+
+/// What has to do with the lengths of memory and pool.
+fn lengths(all: &mut BTreeSet<Feature>) {
+    all.extend((1..=POOL_GRANULES).map(F::Granules));
+    all.extend(Octave::all(POOL_LIMIT).map(F::Table));
+    all.extend(Octave::all(POOL_LIMIT).map(F::Marked));
+    all.extend(Octave::all(MEMORY_LIMIT).map(F::MarkedInMemory));
+    all.extend(Limit::KEPT.map(F::Limit));
+    all.extend(Limit::OF_MEMORY.map(F::Limit));
+    all.extend(Limit::OF_POOL.map(F::Limit));
+    all.extend(Limit::OF_ADDRESS.map(F::Limit));
 }
 
 #[derive(Default)]
@@ -331,10 +357,11 @@ impl Tally {
             self.meet(F::Code(answer.code));
         }
         self.meet(F::Reads(answer.tag, answer.reads));
-        match before.len() {
-            MEMORY_LIMIT => self.meet(F::Place(Place::LongestMemory)),
-            4096 => self.meet(F::Place(Place::ShortestMemory)),
-            _ => {}
+        if before.len() as u64 == GRANULE {
+            self.meet(F::Place(Place::ShortestMemory));
+        }
+        for limit in limits::kept(before.len(), &regime.pool) {
+            self.meet(F::Limit(limit));
         }
 
         let end = match walk.answer {
@@ -373,6 +400,9 @@ impl Tally {
 
     fn note_refusal(&mut self, length: usize, regime: &Regime, access: &Access, number: u8) {
         self.meet(F::Refusal(number));
+        if let (1, Some(limit)) = (number, limits::passed(length, &regime.pool)) {
+            self.meet(F::Limit(limit));
+        }
         for other in all_of_walk(length, regime, access).skip(1) {
             self.meet(F::FirstRow(number, other));
         }
@@ -389,7 +419,8 @@ impl Tally {
         self.meet(F::OutputCode(End::Success, code));
         self.meet(F::Shareability(answer.shareability));
         self.meet(F::NonGlobal(answer.nonglobal != 0));
-        self.meet(F::Granules((regime.pool.length as u64 / GRANULE) as u8));
+        self.meet(F::Granules(regime.pool.length as u64 / GRANULE));
+        self.note_places(&regime.pool, walk, answer);
         if let Some((leaf, _)) = walk.leaf {
             let index = (leaf.descriptor >> 2 & 7) as u8;
             self.meet(F::Attribute(index, is_device(answer.attribute)));
@@ -430,6 +461,24 @@ impl Tally {
         }
     }
 
+    /// How far up a success has read and marked.
+    fn note_places(&mut self, pool: &Pool, walk: &Walk, answer: &CAnswer) {
+        let Some((&leaf, tables)) = walk.visited.split_last() else {
+            return;
+        };
+        let offset = |entry: u64| (entry - pool.address) as usize;
+        for &table in tables {
+            self.meet(F::Table(Octave::of(offset(table))));
+        }
+        if answer.accessed != 0 || answer.dirtied != 0 {
+            self.meet(F::Marked(Octave::of(offset(leaf))));
+            self.meet(F::MarkedInMemory(Octave::of(pool.start + offset(leaf))));
+            if limits::is_last(pool, leaf) {
+                self.meet(F::Limit(Limit::LastOfPool));
+            }
+        }
+    }
+
     fn note_fault(
         &mut self,
         regime: &Regime,
@@ -438,7 +487,6 @@ impl Tally {
         walk: &Walk,
         kind: FaultKind,
     ) {
-        let pool = &regime.pool;
         match kind {
             FaultKind::AddressSize => {
                 let code = regime.output_code;
@@ -448,26 +496,30 @@ impl Tally {
                     self.meet(F::At(held, code));
                 }
             }
-            FaultKind::WalkAbort => {
-                let Some(&entry) = walk.visited.last() else {
-                    return;
-                };
-                // Does the memory around the pool look valid there?
-                let looks_valid = |offset: usize| {
-                    offset + 8 <= before.len() && read_descriptor(before, offset) & 1 == 1
-                };
-                let behind = pool.start + pool.length;
-                if entry == pool.address + pool.length as u64 && looks_valid(behind) {
-                    self.meet(F::Place(Place::BehindPool));
-                }
-                if entry.checked_add(8) == Some(pool.address)
-                    && pool.start >= 8
-                    && looks_valid(pool.start - 8)
-                {
-                    self.meet(F::Place(Place::BeforePool));
-                }
-            }
+            FaultKind::WalkAbort => self.note_abort(&regime.pool, before, walk),
             _ => {}
+        }
+    }
+
+    /// An abort: does the memory around the pool look valid there?
+    fn note_abort(&mut self, pool: &Pool, before: &[u8], walk: &Walk) {
+        let Some(&entry) = walk.visited.last() else {
+            return;
+        };
+        let looks_valid =
+            |offset: usize| offset + 8 <= before.len() && read_descriptor(before, offset) & 1 == 1;
+        let behind = pool.start + pool.length;
+        if entry == pool.address + pool.length as u64 && looks_valid(behind) {
+            self.meet(F::Place(Place::BehindPool));
+            if limits::is_behind(pool, entry) {
+                self.meet(F::Limit(Limit::BehindPool));
+            }
+        }
+        if entry.checked_add(8) == Some(pool.address)
+            && pool.start >= 8
+            && looks_valid(pool.start - 8)
+        {
+            self.meet(F::Place(Place::BeforePool));
         }
     }
 

@@ -1,6 +1,7 @@
 //! The worked cases, P1 to P12 (RULES 12), held against the reference, and a
 //! check that the cases meet all they should.
 
+mod limits;
 mod refusals;
 mod rule3;
 mod session;
@@ -241,10 +242,11 @@ fn p11_page_end() {
 #[test]
 fn p12_pool_length() {
     let (mut memory, mut regime) = start();
-    memory.resize(69_632, 0);
+    memory.resize(1_052_672, 0);
+    regime.pool.length = 1_048_576;
     let walk = go(&mut memory, &regime, &access(Kind::Read));
     assert_eq!(success(&walk).output, 0x8000_5ABC);
-    regime.pool.length = 69_632;
+    regime.pool.length = 1_052_672;
     let walk = go(&mut memory, &regime, &access(Kind::Read));
     assert_eq!(walk.answer, Answer::Refused(1));
 }
@@ -254,12 +256,15 @@ fn p12_pool_length() {
 struct Survey {
     tally: Tally,
     count: u64,
+    /// The memory before a case.
+    before: Vec<u8>,
 }
 
 impl Runner for Survey {
     fn run(&mut self, memory: &mut Vec<u8>, case: &Case) {
         self.count += 1;
-        let before = memory.clone();
+        self.before.clone_from(memory);
+        let before = &self.before;
         let walk = walk(memory, case.regime, case.access);
         let answer = plain_answer(&walk.answer);
         // That family crosses leaf bits, so each of its walks must see them.
@@ -268,13 +273,13 @@ impl Runner for Survey {
             case.regime,
             case.access,
             &answer,
-            &before,
+            before,
             memory,
             walk.leaf.map(|(_, offset)| offset),
             case.expect,
         )
         .unwrap_or_else(|broken| panic!("case {}: {broken}: {answer:?}", self.count));
-        self.tally.note(case, &before, &walk, &answer);
+        self.tally.note(case, before, &walk, &answer);
     }
 }
 
@@ -283,6 +288,7 @@ fn cases_meet_all_that_can_occur() {
     let mut survey = Survey {
         tally: Tally::default(),
         count: 0,
+        before: Vec::new(),
     };
     run_all(1, &mut survey);
     assert_eq!(survey.tally.missing(), []);

@@ -161,13 +161,14 @@ pub use regime::{OutputSize, Pool, Range, Regime};
 pub use session::Session;
 
 /// The most bytes of a lent memory.
-pub const MEMORY_LIMIT: usize = 1_048_576;
+pub const MEMORY_LIMIT: usize = 16_777_216;
 
-/// The most bytes of a pool. Its last descriptor is at offset 65,528.
-pub const POOL_LIMIT: usize = 65_536;
+/// The most bytes of a pool. The last descriptor of such a pool is at offset
+/// `POOL_LIMIT - 8`.
+pub const POOL_LIMIT: usize = 1_048_576;
 
 /// The version of the C interface that this crate speaks.
-pub const VERSION: u32 = 5;
+pub const VERSION: u32 = 6;
 
 /// The version of the library that is linked in; to be [`VERSION`].
 pub fn version() -> u32 {

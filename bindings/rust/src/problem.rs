@@ -18,15 +18,16 @@ use crate::{PhysAddr, Refusal, VirtAddr, MEMORY_LIMIT, POOL_LIMIT};
 /// add causes, so a match needs a wildcard arm.
 ///
 /// ```
-/// use vmsa::{PhysAddr, Pool, Problem, Refusal, Regime};
+/// use vmsa::{PhysAddr, Pool, Problem, Refusal, Regime, POOL_LIMIT};
 ///
-/// let regime = Regime::new().pool(Pool::new(0, 69_632, PhysAddr(0x4000_0000)));
-/// let problem = regime.check(69_632).unwrap_err();
-/// assert_eq!(problem, Problem::PoolTooLong { length: 69_632 });
+/// let length = POOL_LIMIT + 4096;
+/// let regime = Regime::new().pool(Pool::new(0, length, PhysAddr(0x4000_0000)));
+/// let problem = regime.check(length).unwrap_err();
+/// assert_eq!(problem, Problem::PoolTooLong { length });
 /// assert_eq!(problem.refusal(), Refusal::MemoryPool);
 /// assert_eq!(
 ///     problem.to_string(),
-///     "refused with 1: the pool's length, 69632, is above its limit, 65536",
+///     format!("refused with 1: the pool's length, {length}, is above its limit, {POOL_LIMIT}"),
 /// );
 /// ```
 #[derive(Clone, Copy, Debug, PartialEq, Eq, Hash)]

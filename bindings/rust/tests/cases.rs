@@ -195,13 +195,13 @@ fn p11_end_of_the_page() {
 
 #[test]
 fn p12_pool_limit() {
-    let mut memory = memory();
-    memory.resize(0x11000, 0);
-    assert!(walk(&mut memory, &regime(), &read()).is_ok());
-
-    let above = regime().pool(Pool::new(0, 69_632, PhysAddr(POOL)));
-    assert_eq!(
-        walk(&mut memory, &above, &read()),
-        Err(Stop::Refused(Refusal::MemoryPool))
-    );
+    // The pool is the memory.
+    let of = |length| {
+        let mut memory = memory();
+        memory.resize(length, 0);
+        let regime = regime().pool(Pool::new(0, length, PhysAddr(POOL)));
+        walk(&mut memory, &regime, &read())
+    };
+    assert_eq!(of(1_048_576), Ok(found()));
+    assert_eq!(of(1_052_672), Err(Stop::Refused(Refusal::MemoryPool)));
 }

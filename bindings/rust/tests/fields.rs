@@ -573,17 +573,9 @@ fn answer_of_a_refusal() {
             .starts_with(&format!("refused with {number}: ")));
     }
 
-    // The pool may end at 2^48 exactly, and the memory has a limit.
+    // The pool may end at 2^48 exactly.
     let last = pool(0, 0x10000, (1 << 48) - 0x10000);
     assert_eq!(code(ask(&memory(), &last, &read())), 20);
-    let mut large = memory();
-    large.resize(vmsa::MEMORY_LIMIT, 0);
-    assert!(ask(&large, &regime(), &read()).is_ok());
-    large.push(0);
-    assert_eq!(
-        refusal(ask(&large, &regime(), &read())),
-        Refusal::MemoryPool
-    );
 }
 
 #[test]

@@ -89,12 +89,13 @@ impl Library {
 }
 
 /// Each cause, in the order in which they are looked for: a change that makes
-/// it, whatever else was changed, and the words behind the number.
+/// it, also after the change of any later one, and the words behind the number,
+/// with the limits by their names.
 const CAUSES: [(Change, Refusal, &str); 21] = [
     (
         |q| q.memory = MEMORY_LIMIT + 1,
         Refusal::MemoryPool,
-        "the memory's length, 1048577, is above its limit, 1048576",
+        "the memory's length, MEMORY_LIMIT + 1, is above its limit, MEMORY_LIMIT",
     ),
     (
         |q| q.regime.pool.start = 0x800,
@@ -112,14 +113,14 @@ const CAUSES: [(Change, Refusal, &str); 21] = [
         "the pool's length is 0",
     ),
     (
-        |q| q.regime.pool.length = POOL_LIMIT + 0x1000,
+        |q| q.regime.pool.length = POOL_LIMIT + 4096,
         Refusal::MemoryPool,
-        "the pool's length, 69632, is above its limit, 65536",
+        "the pool's length, POOL_LIMIT + 4096, is above its limit, POOL_LIMIT",
     ),
     (
-        |q| (q.memory, q.regime.pool.start) = (POOL_LIMIT, 0x1000),
+        |q| (q.memory, q.regime.pool.start, q.regime.pool.length) = (0x2000, 0x1000, 0x2000),
         Refusal::MemoryPool,
-        "the pool's end, 69632, is past the end of the memory, 65536",
+        "the pool's end, 12288, is past the end of the memory, 8192",
     ),
     (
         |q| q.regime.pool.address = PhysAddr(POOL + 0x800),
@@ -127,9 +128,9 @@ const CAUSES: [(Change, Refusal, &str); 21] = [
         "the pool's address, 0x40000800, is no multiple of 4096",
     ),
     (
-        |q| q.regime.pool.address = PhysAddr(TOP - 0x1000),
+        |q| (q.regime.pool.address, q.regime.pool.length) = (PhysAddr(TOP - 0x1000), 0x2000),
         Refusal::PoolAddress,
-        "the pool's end address, 0x100000000f000, is above 2^48",
+        "the pool's end address, 0x1000000001000, is above 2^48",
     ),
     (
         |q| q.regime.range0.tsz = 15,
@@ -199,13 +200,27 @@ const CAUSES: [(Change, Refusal, &str); 21] = [
     ),
 ];
 
+/// Such words with the limits' numbers.
+fn numbered(words: &str) -> String {
+    [
+        ("MEMORY_LIMIT + 1", MEMORY_LIMIT + 1),
+        ("MEMORY_LIMIT", MEMORY_LIMIT),
+        ("POOL_LIMIT + 4096", POOL_LIMIT + 4096),
+        ("POOL_LIMIT", POOL_LIMIT),
+    ]
+    .into_iter()
+    .fold(words.to_string(), |words, (name, number)| {
+        words.replace(name, &number.to_string())
+    })
+}
+
 #[test]
 fn words() {
     assert_eq!(question().problem(), None);
     for (change, refusal, words) in CAUSES {
         let problem = changed(&[change]).problem().unwrap();
         assert_eq!(problem.refusal(), refusal);
-        let number = refusal.number();
+        let (number, words) = (refusal.number(), numbered(words));
         assert_eq!(
             problem.to_string(),
             format!("refused with {number}: {words}")
@@ -247,12 +262,13 @@ fn values_to_match_on() {
 fn the_first_of_two() {
     let mut library = Library::new();
     for (place, (change, _, words)) in CAUSES.into_iter().enumerate() {
+        let words = numbered(words);
         library.agrees(&changed(&[change]));
         for (later, ..) in &CAUSES[place + 1..] {
             let question = changed(&[*later, change]);
             let problem = question.problem().unwrap();
             assert!(
-                problem.to_string().ends_with(words),
+                problem.to_string().ends_with(&words),
                 "{problem}, not {words}"
             );
             library.agrees(&question);
@@ -419,7 +435,7 @@ fn change(question: &mut Question, random: &mut Random) {
         11 => question.access.kind = random.pick(&AccessKind::ALL),
         // A pool that mostly fits, in a memory that may be shorter.
         12 => {
-            let pages = random.below(20) as usize;
+            let pages = (POOL_LIMIT >> 12) + 3 - random.below(20) as usize;
             question.memory = MEMORY_LIMIT - random.below(3) as usize;
             regime.pool.length = pages << 12;
             regime.pool.start = MEMORY_LIMIT - (pages << 12);

@@ -2,7 +2,7 @@
 
 mod tables;
 
-use tables::{memory, read, regime, POOL};
+use tables::{memory, read, regime, LENGTH, POOL};
 use vmsa::{Access, PhysAddr, Range, Refusal, Regime, Session, VirtAddr};
 
 /// What a call is made with; as it starts, none is refused.
@@ -19,7 +19,9 @@ type Change = fn(&mut Question);
 /// Each refusal with its number (`docs/RULES.md`, 5.1), and a change that makes
 /// it apply, whatever else was changed.
 const REFUSALS: &[(Refusal, u8, Change)] = &[
-    (Refusal::MemoryPool, 1, |question| question.lent = 0xffff),
+    (Refusal::MemoryPool, 1, |question| {
+        question.lent = LENGTH - 1;
+    }),
     (Refusal::PoolAddress, 2, |question| {
         question.regime.pool.address = PhysAddr(POOL + 8);
     }),
@@ -37,7 +39,7 @@ const REFUSALS: &[(Refusal, u8, Change)] = &[
         question.access.address = VirtAddr(0x40_3fff);
     }),
     (Refusal::StoreAddress, 8, |question| {
-        question.store = PhysAddr(POOL + 0x10000);
+        question.store = PhysAddr(POOL + LENGTH as u64);
     }),
     (Refusal::NoRegime, 9, |question| question.set = false),
     (Refusal::DirtyState, 13, |question| {
@@ -97,7 +99,7 @@ const ORDERS: [(Call, &[Refusal]); 4] = [
 fn question() -> Question {
     Question {
         set: true,
-        lent: 0x10000,
+        lent: LENGTH,
         regime: regime(),
         access: read(),
         store: PhysAddr(POOL),

@@ -3,7 +3,7 @@
 
 mod tables;
 
-use tables::{get, memory, put, read, regime, write, Random, ADDRESS, CLEAN, LEAF, POOL};
+use tables::{get, memory, put, read, regime, write, Random, ADDRESS, CLEAN, LEAF, LENGTH, POOL};
 use vmsa::{
     walk, Access, AccessKind, Answer, FaultKind, PhysAddr, Pool, Range, Refusal, Session, Stop,
     VirtAddr,
@@ -117,7 +117,8 @@ fn script() {
             Err(Stop::Refused(refusal))
         );
     }
-    for address in [POOL - 8, POOL + 4, POOL + 0x10000, 0, u64::MAX - 7] {
+    let end = POOL + LENGTH as u64;
+    for address in [POOL - 8, POOL + 4, end, 0, u64::MAX - 7] {
         let answer = session.store(&mut memory, PhysAddr(address), 1);
         assert_eq!(answer, Err(Refusal::StoreAddress));
     }
@@ -130,9 +131,9 @@ fn script() {
     assert!((session.clone(), memory.clone()) == before);
 
     // The last descriptor of the pool may be stored; a new regime empties.
-    let last = PhysAddr(POOL + 65_528);
+    let last = PhysAddr(end - 8);
     session.store(&mut memory, last, u64::MAX).unwrap();
-    assert_eq!(get(&memory, 65_528), u64::MAX);
+    assert_eq!(get(&memory, LENGTH - 8), u64::MAX);
     assert_eq!(reads(session.access(&mut memory, &read())), 4);
     assert_eq!(reads(session.access(&mut memory, &read())), 0);
     session.set_regime(&memory, &regime()).unwrap();

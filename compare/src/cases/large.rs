@@ -1,47 +1,84 @@
-//! The longest memories, a few times only.
+//! Long memories, with short pools and the longest far up in them; a few
+//! times only, since all their bytes are compared.
 
-use super::scene::{draw_access, draw_leaf, Placement};
+use super::pools::{ask_behind, ask_last};
+use super::scene::{draw_access, Placement, SHORT};
 use super::Maker;
+use crate::limits::POOL_GRANULES;
 use crate::promises::Expect;
 use crate::reference::{GRANULE, MEMORY_LIMIT, POOL_LIMIT};
 
 const FAMILY: &str = "large";
-const SCENES: u32 = 48;
+const ROUNDS: u32 = 2;
+const PAGE: usize = GRANULE as usize;
 
 pub fn run(maker: &mut Maker) {
-    for number in 0..SCENES {
-        let granules = maker.random.between(1, 16);
-        let length = (granules * GRANULE) as usize;
-        // The pool first, last, or anywhere in the memory.
-        let before = match number % 3 {
-            0 => 0,
-            1 => MEMORY_LIMIT - length,
-            _ => {
-                let places = (MEMORY_LIMIT - POOL_LIMIT) as u64 / GRANULE;
-                (maker.random.below(places) * GRANULE) as usize
+    for _ in 0..ROUNDS {
+        let short = maker.random.between(1, SHORT);
+        for granules in [short, POOL_GRANULES] {
+            first(maker, granules);
+            last(maker, granules);
+            let mut from = POOL_LIMIT;
+            while from < MEMORY_LIMIT {
+                within(maker, granules, from);
+                from *= 2;
             }
-        };
-        let behind = MEMORY_LIMIT - length - before;
-        let random = &mut maker.random;
-        let scene = &mut maker.scene;
-        let code = random.below(6) as u8;
-        scene.draw_within(random, code, Placement::Inside, granules, before, behind);
-        scene.regime.ranges[0].disabled = false;
-        let leaf_level = random.between(2, 3) as usize;
-        let mut path = scene.draw_path(random, 0, leaf_level);
-        path.tables[leaf_level] = scene.granule(granules - 1);
-        path.indices[leaf_level] = scene.entries(0, leaf_level) - 1;
-        let output = scene.draw_output(random);
-        let leaf = draw_leaf(random, leaf_level, output);
-        scene.lay(random, &path, leaf);
-        let address = scene.address(random, &path);
-        for _ in 0..2 {
-            let access = draw_access(&mut maker.random, address);
-            maker.ask(FAMILY, &access, Expect::Walked);
         }
-        // One byte more and the same is refused.
-        maker.scene.memory.push(0);
-        let access = draw_access(&mut maker.random, address);
-        maker.ask(FAMILY, &access, Expect::Refused(1));
     }
+}
+
+/// The pool starts where the longest memory starts.
+fn first(maker: &mut Maker, granules: u64) {
+    let length = granules as usize * PAGE;
+    draw(maker, granules, 0, MEMORY_LIMIT - length);
+    at_limits(maker, Expect::Walked);
+}
+
+/// The pool ends where the longest memory ends.
+fn last(maker: &mut Maker, granules: u64) {
+    let length = granules as usize * PAGE;
+    draw(maker, granules, MEMORY_LIMIT - length, 0);
+    at_limits(maker, Expect::Refused(1));
+}
+
+/// The pool lies between an offset and twice this offset, and the memory goes
+/// on for a little behind it.
+fn within(maker: &mut Maker, granules: u64, from: usize) {
+    let length = granules as usize * PAGE;
+    let random = &mut maker.random;
+    let start = from + random.below(((from - length) / PAGE) as u64 + 1) as usize * PAGE;
+    let behind = random.pick(&[0, 8, 4096, 4100]);
+    let most = MEMORY_LIMIT - start - length;
+    draw(maker, granules, start, behind.min(most));
+    ask_behind(maker, FAMILY);
+    ask_last(maker, FAMILY);
+}
+
+fn draw(maker: &mut Maker, granules: u64, before: usize, behind: usize) {
+    let random = &mut maker.random;
+    let code = random.below(6) as u8;
+    let placement = Placement::Inside;
+    maker
+        .scene
+        .draw_within(random, code, placement, granules, before, behind);
+}
+
+/// The end of the pool in the longest memory. Then the same with the pool a
+/// granule further up, and in one byte less, both as expected; and in one byte
+/// more, which is refused.
+fn at_limits(maker: &mut Maker, expect: Expect) {
+    ask_behind(maker, FAMILY);
+    let address = ask_last(maker, FAMILY);
+    maker.scene.regime.pool.start += PAGE;
+    ask(maker, address, expect);
+    maker.scene.regime.pool.start -= PAGE;
+    maker.scene.memory.truncate(MEMORY_LIMIT - 1);
+    ask(maker, address, expect);
+    maker.scene.memory.resize(MEMORY_LIMIT + 1, 0);
+    ask(maker, address, Expect::Refused(1));
+}
+
+fn ask(maker: &mut Maker, address: u64, expect: Expect) {
+    let access = draw_access(&mut maker.random, address);
+    maker.ask(FAMILY, &access, expect);
 }

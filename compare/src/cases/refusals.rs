@@ -23,6 +23,7 @@ struct Question<'a> {
 /// question was; those in `limits` break none.
 type Change = Box<dyn Fn(&mut Question, &mut Random)>;
 
+#[derive(Default)]
 struct Changes {
     past: Vec<(u8, Change)>,
     limits: Vec<Change>,
@@ -36,13 +37,17 @@ impl Changes {
     fn limit(&mut self, change: impl Fn(&mut Question, &mut Random) + 'static) {
         self.limits.push(Box::new(change));
     }
+
+    /// One that breaks a row.
+    fn draw_past(&self, random: &mut Random, row: u8) -> &Change {
+        let of_row = self.past.iter().filter(|past| past.0 == row);
+        let all: Vec<&Change> = of_row.map(|(_, change)| change).collect();
+        random.pick(&all)
+    }
 }
 
 pub fn run(maker: &mut Maker) {
-    let mut changes = Changes {
-        past: Vec::new(),
-        limits: Vec::new(),
-    };
+    let mut changes = Changes::default();
     memory_and_pool(&mut changes);
     pool_address(&mut changes);
     sizes_and_code(&mut changes);
@@ -50,8 +55,19 @@ pub fn run(maker: &mut Maker) {
     updates(&mut changes);
     access_size(&mut changes);
     page_crossing(&mut changes);
+    each_alone(maker, &changes, 24);
+    in_pairs(maker, &changes);
 
-    for _ in 0..24 {
+    let mut long = Changes::default();
+    lengths(&mut long);
+    each_alone(maker, &long, 4);
+    with_each_row(maker, &long, &changes);
+
+    every_attribute_byte(maker);
+}
+
+fn each_alone(maker: &mut Maker, changes: &Changes, times: u32) {
+    for _ in 0..times {
         for (row, change) in &changes.past {
             ask(maker, &[change], Expect::Refused(*row));
         }
@@ -59,6 +75,9 @@ pub fn run(maker: &mut Maker) {
             ask(maker, &[change], Expect::Walked);
         }
     }
+}
+
+fn in_pairs(maker: &mut Maker, changes: &Changes) {
     for (row, change) in &changes.past {
         for (other_row, other) in &changes.past {
             if is_before(WALK, *row, *other_row) {
@@ -72,7 +91,23 @@ pub fn run(maker: &mut Maker) {
             ask(maker, &[change, limit], Expect::Anything);
         }
     }
-    every_attribute_byte(maker);
+}
+
+/// The same for changes that make long memories, with one change of each row.
+fn with_each_row(maker: &mut Maker, long: &Changes, changes: &Changes) {
+    for (row, change) in &long.past {
+        for &other_row in WALK.iter().filter(|&&other| is_before(WALK, *row, other)) {
+            let other = changes.draw_past(&mut maker.random, other_row);
+            ask(maker, &[other, change], Expect::Refused(*row));
+        }
+    }
+    for limit in &long.limits {
+        for &row in WALK {
+            let change = changes.draw_past(&mut maker.random, row);
+            ask(maker, &[limit, change], Expect::Refused(row));
+            ask(maker, &[change, limit], Expect::Anything);
+        }
+    }
 }
 
 /// A question that is accepted, its changes, and the call.
@@ -110,12 +145,6 @@ fn ask(maker: &mut Maker, changes: &[&Change], expect: Expect) {
 
 /// Row 1.
 fn memory_and_pool(changes: &mut Changes) {
-    // Memory too long, and as long as it may be.
-    changes.past(1, |question, _| {
-        question.scene.memory.resize(MEMORY_LIMIT + 1, 0)
-    });
-    changes.limit(|question, _| question.scene.memory.resize(MEMORY_LIMIT, 0));
-
     // Memory too short for any pool.
     for length in [0, 1, 8, PAGE - 1] {
         changes.past(1, move |question, _| {
@@ -168,36 +197,13 @@ fn memory_and_pool(changes: &mut Changes) {
         });
     }
 
-    // Length 0, 65,536 and above.
+    // Length 0.
     changes.past(1, |question, _| question.scene.regime.pool.length = 0);
     changes.past(1, |question, _| {
         let pool = &mut question.scene.regime.pool;
         pool.length = 0;
         pool.start = question.scene.memory.len() / PAGE * PAGE;
     });
-    changes.limit(|question, _| {
-        let pool = &mut question.scene.regime.pool;
-        pool.length = POOL_LIMIT;
-        // Row 2 still holds.
-        pool.address = pool.address.min(PHYSICAL_LIMIT - POOL_LIMIT as u64);
-        let end = pool.start.min(MEMORY_LIMIT - POOL_LIMIT) + POOL_LIMIT;
-        pool.start = end - POOL_LIMIT;
-        if question.scene.memory.len() < end {
-            question.scene.memory.resize(end, 0);
-        }
-    });
-    for length in [
-        POOL_LIMIT + 1,
-        POOL_LIMIT + 8,
-        POOL_LIMIT + PAGE,
-        2 * POOL_LIMIT,
-    ] {
-        changes.past(1, move |question, _| {
-            question.scene.regime.pool.start = 0;
-            question.scene.regime.pool.length = length;
-            question.scene.memory.resize(length, 0);
-        });
-    }
 
     // Numbers whose sum would wrap.
     let highest = usize::MAX - (PAGE - 1);
@@ -232,6 +238,34 @@ fn memory_and_pool(changes: &mut Changes) {
         let pool = &mut question.scene.regime.pool;
         (pool.start, pool.length) = (1 << 63, 1 << 63);
     });
+}
+
+/// Row 1 again: memory and pool as long as they may be, and longer.
+fn lengths(changes: &mut Changes) {
+    changes.limit(|question, _| question.scene.memory.resize(MEMORY_LIMIT, 0));
+    changes.past(1, |question, _| {
+        question.scene.memory.resize(MEMORY_LIMIT + 1, 0)
+    });
+    changes.limit(|question, _| {
+        let pool = &mut question.scene.regime.pool;
+        pool.length = POOL_LIMIT;
+        // Row 2 still holds.
+        pool.address = pool.address.min(PHYSICAL_LIMIT - POOL_LIMIT as u64);
+        pool.start = pool.start.min(2 * PAGE);
+        question.scene.memory.resize(2 * PAGE + POOL_LIMIT, 0);
+    });
+    for length in [
+        POOL_LIMIT + 1,
+        POOL_LIMIT + 8,
+        POOL_LIMIT + PAGE,
+        2 * POOL_LIMIT,
+    ] {
+        changes.past(1, move |question, _| {
+            question.scene.regime.pool.start = 0;
+            question.scene.regime.pool.length = length;
+            question.scene.memory.resize(length, 0);
+        });
+    }
 }
 
 /// Row 2.

@@ -4,8 +4,13 @@
 use crate::random::Random;
 use crate::reference::{
     first_level, index_bits, lowest_index_bit, output_limit, Access, Kind, Pool, Range, Regime,
-    ADDRESS_FIELD, AF, AP1, AP2, GRANULE, MEMORY_LIMIT, PHYSICAL_LIMIT,
+    ADDRESS_FIELD, AF, AP1, AP2, DBM, GRANULE, PHYSICAL_LIMIT,
 };
+
+/// Entries in a table below the first one.
+pub const ENTRIES: u64 = GRANULE / 8;
+/// The most granules of a pool where its length does not matter.
+pub const SHORT: u64 = 16;
 
 /// HA and HD as they may stand together (RULES 5.1, row 13).
 pub const UPDATES: [(bool, bool); 3] = [(false, false), (true, false), (true, true)];
@@ -118,13 +123,32 @@ pub fn draw_leaf(random: &mut Random, level: usize, output: u64) -> u64 {
     leaf | if level == 3 { 3 } else { 1 }
 }
 
+/// A leaf that a write from EL1 marks accessed and dirty, where HA and HD are
+/// on.
+pub fn draw_clean_leaf(random: &mut Random, level: usize, output: u64) -> u64 {
+    let leaf = draw_leaf(random, level, output);
+    leaf & !(1 << AF) | 1 << AP2 | 1 << DBM
+}
+
+/// A write or update from EL1 in the page of `address`, at a multiple of its
+/// size.
+pub fn draw_marking_access(random: &mut Random, address: u64) -> Access {
+    let kind = random.pick(&[Kind::Write, Kind::Update]);
+    let access = draw_access_of(random, address, kind);
+    Access {
+        address: access.address & !(access.size - 1),
+        el0: false,
+        ..access
+    }
+}
+
 /// Any bits beside a table's address and type, 63..59 among them.
 pub fn draw_table(random: &mut Random, address: u64) -> u64 {
     (random.bits() & !ADDRESS_FIELD) | (address & ADDRESS_FIELD) | 3
 }
 
 impl Scene {
-    /// An empty memory with room for the longest one, taken once.
+    /// An empty memory.
     pub fn new() -> Self {
         let range = Range {
             root: 0,
@@ -132,7 +156,7 @@ impl Scene {
             disabled: false,
         };
         Scene {
-            memory: Vec::with_capacity(MEMORY_LIMIT + 1),
+            memory: Vec::new(),
             regime: Regime {
                 pool: Pool {
                     start: 0,
@@ -321,6 +345,19 @@ impl Scene {
         path
     }
 
+    /// A path to a page whose leaf is the pool's last descriptor, which serves
+    /// no other level.
+    pub fn draw_path_to_end(&self, random: &mut Random, range: usize) -> Path {
+        loop {
+            let mut path = self.draw_path(random, range, 3);
+            path.tables[3] = self.granule(self.granules() - 1);
+            path.indices[3] = ENTRIES - 1;
+            if (path.first..3).all(|above| path.entry(above) != path.entry(3)) {
+                return path;
+            }
+        }
+    }
+
     /// An index that can be reached at a level; the ends more often.
     pub fn draw_index(&self, random: &mut Random, range: usize, level: usize) -> u64 {
         let entries = self.entries(range, level);
@@ -371,11 +408,12 @@ impl Default for Scene {
     }
 }
 
-/// Pool lengths: short ones mostly, each from 1 to 16 at times.
+/// Pool lengths where they do not matter: mostly a few granules, and up to
+/// `SHORT` at times.
 pub fn draw_granules(random: &mut Random, least: u64) -> u64 {
     match random.below(16) {
-        0 => 16,
-        1 => random.between(least, 16),
+        0 => SHORT,
+        1 => random.between(least, SHORT),
         _ => random.between(least, 4),
     }
 }

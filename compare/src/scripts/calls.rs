@@ -1,7 +1,8 @@
 //! The calls of a script, drawn one by one as the session goes on.
 
+use super::opening;
 use super::world::{draw_usable_leaf, lead_to, set_bit, vary, Leaves, World};
-use super::Step;
+use super::{Step, CALLS};
 use crate::boundary::Spelling;
 use crate::cases::scene::{draw_access, draw_access_of, draw_table, HD_ALONE};
 use crate::random::Random;
@@ -11,6 +12,7 @@ use crate::reference::{
 };
 use crate::refusals::{row_1, SET_REGIME};
 use crate::session::{Call, Held, Session};
+use std::vec;
 
 /// How often each sort of call comes.
 #[derive(Clone, Copy)]
@@ -36,6 +38,65 @@ const EVEN: Mood = Mood {
     odd_length: 40,
 };
 
+const DIRTY: Mood = Mood {
+    regime: 1,
+    writes: 0,
+    ..EVEN
+};
+
+const STORES: Mood = Mood { store: 35, ..EVEN };
+
+const REGIMES: Mood = Mood {
+    store: 10,
+    drop: 8,
+    regime: 10,
+    bad_regime: 10,
+    bad_access: 10,
+    odd_length: 8,
+    ..EVEN
+};
+
+/// No store, so that the first half speaks all the way.
+const QUIET: Mood = Mood {
+    store: 0,
+    writes: 0,
+    ..EVEN
+};
+
+const FILL: Mood = Mood {
+    store: 2,
+    drop: 0,
+    regime: 0,
+    bad_regime: 1,
+    bad_access: 1,
+    ..EVEN
+};
+
+const LENGTHS: Mood = Mood {
+    odd_length: 8,
+    ..EVEN
+};
+
+/// The family whose memories are the longest.
+const LONG: &str = "long";
+
+/// A family, its mood and a world, turn by turn.
+fn draw_setting(number: u64, random: &mut Random) -> (&'static str, Mood, World) {
+    let mixed = |random: &mut Random| World::planned(random, Leaves::Mixed);
+    let clean = |random: &mut Random| World::planned(random, Leaves::Clean);
+    match number % 16 {
+        _ if number % 1500 == 8 => (LONG, EVEN, World::long_memory(random, number / 1500)),
+        _ if number % 500 == 7 => ("pools", LENGTHS, World::long_pool(random, number / 500)),
+        0..=3 => ("trees", EVEN, mixed(random)),
+        4..=7 => ("dirty", DIRTY, clean(random)),
+        8 | 9 => ("stores", STORES, clean(random)),
+        10 | 11 => ("regimes", REGIMES, mixed(random)),
+        12 => ("quiet", QUIET, clean(random)),
+        13 => ("wide", FILL, World::wide(random)),
+        _ => ("noise", EVEN, World::unplanned(random)),
+    }
+}
+
 /// Calls that are to come next, on one page.
 #[derive(Clone, Copy)]
 enum Planned {
@@ -49,6 +110,8 @@ pub struct Script {
     pub world: World,
     pub random: Random,
     mood: Mood,
+    /// The first calls and their lengths, where the world asks for some.
+    opening: vec::IntoIter<(Call, usize)>,
     /// The pages most accesses go to.
     hot: Vec<u64>,
     /// Descriptors that were stored over, and what they were.
@@ -58,65 +121,8 @@ pub struct Script {
 }
 
 impl Script {
-    /// A world and a mood, turn by turn.
     pub fn draw(number: u64, mut random: Random) -> Script {
-        let mixed = |random: &mut Random| World::planned(random, Leaves::Mixed);
-        let clean = |random: &mut Random| World::planned(random, Leaves::Clean);
-        let (family, mood, world) = match number % 16 {
-            _ if number % 500 == 7 => {
-                let lengths = Mood {
-                    odd_length: 2,
-                    ..EVEN
-                };
-                ("long", lengths, World::long(&mut random))
-            }
-            0..=3 => ("trees", EVEN, mixed(&mut random)),
-            4..=7 => {
-                let dirty = Mood {
-                    regime: 1,
-                    writes: 0,
-                    ..EVEN
-                };
-                ("dirty", dirty, clean(&mut random))
-            }
-            8 | 9 => {
-                let stores = Mood { store: 35, ..EVEN };
-                ("stores", stores, clean(&mut random))
-            }
-            10 | 11 => {
-                let regimes = Mood {
-                    store: 10,
-                    drop: 8,
-                    regime: 10,
-                    bad_regime: 10,
-                    bad_access: 10,
-                    odd_length: 8,
-                    ..EVEN
-                };
-                ("regimes", regimes, mixed(&mut random))
-            }
-            12 => {
-                // No store, so that the first half speaks all the way.
-                let quiet = Mood {
-                    store: 0,
-                    writes: 0,
-                    ..EVEN
-                };
-                ("quiet", quiet, clean(&mut random))
-            }
-            13 => {
-                let fill = Mood {
-                    store: 2,
-                    drop: 0,
-                    regime: 0,
-                    bad_regime: 1,
-                    bad_access: 1,
-                    ..EVEN
-                };
-                ("wide", fill, World::wide(&mut random))
-            }
-            _ => ("noise", EVEN, World::unplanned(&mut random)),
-        };
+        let (family, mood, world) = draw_setting(number, &mut random);
         let pages = &world.pages;
         let hot = if family == "wide" {
             pages.clone()
@@ -127,30 +133,59 @@ impl Script {
             hot.extend((0..4).map(|_| random.pick(pages)));
             hot
         };
+        let opening = match &world.ends {
+            Some(ends) => opening::draw(&mut random, &world, ends),
+            None => Vec::new(),
+        };
         Script {
             family,
             world,
             random,
             mood,
+            opening: opening.into_iter(),
             hot,
             undone: Vec::new(),
             plan: Vec::new(),
         }
     }
 
+    /// Whether its memory is so long that there are few calls, and no look at
+    /// the pages afterwards.
+    pub fn is_brief(&self) -> bool {
+        self.family == LONG
+    }
+
+    /// How many calls are to come, before the first one.
+    pub fn calls(&self) -> usize {
+        if self.is_brief() {
+            self.opening.len()
+        } else {
+            CALLS
+        }
+    }
+
     /// The next call, by the session and memory of this moment.
     pub fn next(&mut self, session: &Session, memory: &[u8]) -> Step {
-        let (call, lent) = self.draw_call(session, memory);
-        let lent = if self.random.once_in(self.mood.odd_length) {
-            self.draw_length(session)
-        } else {
-            lent.unwrap_or_else(|| self.usual_length(session))
+        let (call, lent) = match self.opening.next() {
+            Some(first) => first,
+            None => self.draw_step(session, memory),
         };
         Step {
             call,
             lent,
             spelling: Spelling::draw(&mut self.random),
         }
+    }
+
+    /// A call and its length.
+    fn draw_step(&mut self, session: &Session, memory: &[u8]) -> (Call, usize) {
+        let (call, lent) = self.draw_call(session, memory);
+        let lent = if self.random.once_in(self.mood.odd_length) {
+            self.draw_length(session)
+        } else {
+            lent.unwrap_or_else(|| self.usual_length(session))
+        };
+        (call, lent)
     }
 
     /// As much as is lent as a rule; at times all, if the regime needs it.
@@ -180,8 +215,7 @@ impl Script {
 
     /// A call, and its length if that is not the usual one.
     fn draw_call(&mut self, session: &Session, memory: &[u8]) -> (Call, Option<usize>) {
-        let patience = if self.family == "long" { 8 } else { 2 };
-        if session.regime.is_none() && self.random.once_in(patience) {
+        if session.regime.is_none() && self.random.once_in(2) {
             return self.draw_regime();
         }
         if let Some(call) = self.follow_plan(session, memory) {

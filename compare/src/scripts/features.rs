@@ -3,7 +3,8 @@
 use super::play::Bytes;
 use crate::boundary::{FAULT, SUCCESS};
 use crate::counts::Countable;
-use crate::reference::{FaultKind, Kind};
+use crate::limits::{Limit, Octave};
+use crate::reference::{FaultKind, Kind, POOL_LIMIT};
 use crate::refusals::{pairs, ACCESS, SET_REGIME, STORE};
 use crate::rule3::Class;
 use crate::session::PLACES;
@@ -95,6 +96,14 @@ pub enum Emptying {
     OtherRegime,
 }
 
+/// The calls that row 1 is for.
+#[derive(Clone, Copy, Debug, PartialEq, Eq, PartialOrd, Ord)]
+pub enum Asked {
+    SetRegime,
+    Access,
+    Store,
+}
+
 #[derive(Clone, Copy, Debug, PartialEq, Eq, PartialOrd, Ord)]
 pub enum Odd {
     /// A hit on a page whose walk reads a descriptor twice.
@@ -111,8 +120,6 @@ pub enum Odd {
     ManyHeld,
     /// Refused with 9, over a memory above its limit.
     NineBeforeOne,
-    /// Refused with 1 for a memory above its limit.
-    TooLong,
     /// A hit over a memory of another length than its walk's.
     OtherLength,
     /// An access of which the second half says nothing, for that reason.
@@ -147,6 +154,11 @@ pub enum Feature {
     Rewalk(Kind, End, bool),
     Walked(Before, End, bool),
     Emptied(Emptying),
+    Limit(Asked, Limit),
+    /// A leaf that an access marked, by its place in the pool.
+    Marked(Octave),
+    /// A descriptor that was stored, by its place in the pool.
+    Stored(Octave),
     Odd(Odd),
     FirstHalf(bool),
     InScript(Class),
@@ -193,6 +205,8 @@ impl fmt::Display for Feature {
                 write!(out, "{before:?} {end} {kept}")
             }
             F::Emptied(by) => write!(out, "{by:?}"),
+            F::Limit(asked, limit) => write!(out, "{asked:?} {limit:?}"),
+            F::Marked(octave) | F::Stored(octave) => write!(out, "{octave}"),
             F::Odd(odd) => write!(out, "{odd:?}"),
             F::FirstHalf(said) => write!(out, "{}", if said { "said" } else { "not said" }),
             F::InScript(class) => write!(out, "{class:?}"),
@@ -226,6 +240,9 @@ impl Countable for Feature {
             F::Rewalk(..) => "re-walks",
             F::Walked(..) => "walks by what the place held, end, and remembered or not",
             F::Emptied(_) => "walks of a page held before an emptying",
+            F::Limit(..) => "limits of memory and pool",
+            F::Marked(_) => "leaves marked, by granule of the pool",
+            F::Stored(_) => "stores accepted, by granule of the pool",
             F::Odd(_) => "odd",
             F::FirstHalf(_) => "rule 3, first half",
             F::InScript(_) => "rule 3, second half, in scripts",
@@ -239,6 +256,7 @@ impl Countable for Feature {
         replies(&mut all);
         hits(&mut all);
         walks(&mut all);
+        lengths(&mut all);
         all.extend([false, true].map(F::FirstHalf));
         all.insert(F::InScript(Class::NoRegime));
         for class in [
@@ -328,8 +346,7 @@ fn hits(all: &mut BTreeSet<Feature>) {
     all.extend(FAULTS.map(|kind| F::Stale(End::Fault(kind))));
     all.extend([Odd::ReadTwice, Odd::DirtiedElsewhere, Odd::OtherAddress].map(F::Odd));
     all.extend([Odd::CleanFault, Odd::CleanProbe, Odd::ManyHeld].map(F::Odd));
-    all.extend([Odd::NineBeforeOne, Odd::TooLong].map(F::Odd));
-    all.extend([Odd::OtherLength, Odd::Unsaid].map(F::Odd));
+    all.extend([Odd::NineBeforeOne, Odd::OtherLength, Odd::Unsaid].map(F::Odd));
 }
 
 /// Walks that can occur, and what they leave in the place.
@@ -369,4 +386,19 @@ fn walks(all: &mut BTreeSet<Feature>) {
         ]
         .map(F::Emptied),
     );
+}
+
+/// What has to do with the lengths of memory and pool.
+fn lengths(all: &mut BTreeSet<Feature>) {
+    for asked in [Asked::SetRegime, Asked::Access, Asked::Store] {
+        all.extend(Limit::KEPT.map(|limit| F::Limit(asked, limit)));
+        all.extend(Limit::OF_MEMORY.map(|limit| F::Limit(asked, limit)));
+    }
+    // The pool of a session has passed no limit.
+    all.extend(Limit::OF_POOL.map(|limit| F::Limit(Asked::SetRegime, limit)));
+    for asked in [Asked::Access, Asked::Store] {
+        all.extend(Limit::OF_ADDRESS.map(|limit| F::Limit(asked, limit)));
+    }
+    all.extend(Octave::all(POOL_LIMIT).map(F::Marked));
+    all.extend(Octave::all(POOL_LIMIT).map(F::Stored));
 }

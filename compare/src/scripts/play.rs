@@ -3,7 +3,7 @@
 
 use super::calls::Script;
 use super::tally::Tally;
-use super::{Step, CALLS};
+use super::Step;
 use crate::boundary::{plain_answer, Reply, Spelling, Subject};
 use crate::cases::scene::{draw_access_of, Scene};
 use crate::random::Random;
@@ -106,9 +106,12 @@ impl<'a, S: Subject> Play<'a, S> {
 
     /// All calls, then the look at every page that was used.
     pub fn run(&mut self, script: &mut Script) -> Result<(), Vec<String>> {
-        for _ in 0..CALLS {
+        for _ in 0..script.calls() {
             let step = script.next(&self.session, &self.memory);
             self.play(&step)?;
+        }
+        if script.is_brief() {
+            return Ok(());
         }
         self.probe(script)
     }

@@ -2,14 +2,15 @@
 //! else may be.
 
 use super::features::{
-    Before, Effect, Emptying, Feature, Feature as F, Odd, Off, Since, Sum, Switch, Target,
+    Asked, Before, Effect, Emptying, Feature, Feature as F, Odd, Off, Since, Sum, Switch, Target,
 };
 use super::play::Bytes;
 use crate::boundary::{plain_answer, CAnswer, Reply, FAULT, REFUSED, SUCCESS};
 use crate::counts::{report_families, Counts};
+use crate::limits::{self, Limit, Octave};
 use crate::reference::{
-    bit, offset_in_memory, read_descriptor, walk, writable_clean, Access, Answer, Kind, Regime,
-    Walk, AF, AP2, MEMORY_LIMIT, PHYSICAL_LIMIT,
+    bit, look, offset_in_memory, read_descriptor, writable_clean, Access, Answer, FaultKind, Kind,
+    Regime, Walk, AF, AP2, MEMORY_LIMIT, PHYSICAL_LIMIT,
 };
 use crate::refusals::all_of_set_regime;
 use crate::rule3::{Checked, Class, Event, History};
@@ -21,6 +22,7 @@ use std::collections::{BTreeMap, BTreeSet};
 pub struct Tally {
     met: Counts<Feature>,
     families: BTreeMap<&'static str, u64>,
+    calls: u64,
 }
 
 impl Tally {
@@ -30,6 +32,16 @@ impl Tally {
 
     pub fn begin(&mut self, family: &'static str) {
         *self.families.entry(family).or_default() += 1;
+    }
+
+    /// How many scripts were begun.
+    pub fn scripts(&self) -> u64 {
+        self.families.values().sum()
+    }
+
+    /// How many calls they made.
+    pub fn calls(&self) -> u64 {
+        self.calls
     }
 
     /// Counts the last call of a list: the library's reply, and what the
@@ -44,6 +56,8 @@ impl Tally {
         let Some(event) = history.events().last() else {
             return;
         };
+        self.calls += 1;
+        self.note_lengths(event, session);
         if !event.is_accepted() {
             self.meet(F::Sum(Sum::RefusedCall));
         }
@@ -60,12 +74,10 @@ impl Tally {
             }
             (Call::Store { address, value }, Reply::Changed(number)) => {
                 self.meet(F::Store(number));
-                match session.regime {
-                    Some(regime) if number == 0 => {
-                        let memory = &history.found(event)[..event.lent];
-                        self.note_store(&regime, session, memory, address, value);
-                    }
-                    Some(regime) if number == 8 => self.note_off(&regime, address),
+                let memory = &history.found(event)[..event.lent];
+                match (session.regime, number) {
+                    (Some(regime), 0) => self.note_store(&regime, session, memory, address, value),
+                    (Some(regime), 8) => self.note_off(&regime, address),
                     _ => {}
                 }
             }
@@ -78,9 +90,58 @@ impl Tally {
                 self.meet(checked.class.map_or(F::Odd(Odd::Unsaid), F::InScript));
                 if let Some((wanted, way)) = seen {
                     self.note_access(history, session, &access, &answer, wanted, way);
+                    self.note_mark(session, &answer, way);
                 }
             }
             _ => {}
+        }
+    }
+
+    /// The limits that a call is at, or the one that it is refused for.
+    fn note_lengths(&mut self, event: &Event, session: &Session) {
+        let (asked, regime, refusal) = match (event.call, event.reply) {
+            (Call::SetRegime(regime), Reply::Changed(number)) => {
+                (Asked::SetRegime, Some(regime), number)
+            }
+            (Call::Store { .. }, Reply::Changed(number)) => (Asked::Store, session.regime, number),
+            (Call::Access(_), Reply::Answered(answer)) => {
+                (Asked::Access, session.regime, answer.refusal)
+            }
+            _ => return,
+        };
+        let Some(Regime { pool, .. }) = regime else {
+            return;
+        };
+        let at: Vec<Limit> = match refusal {
+            0 => limits::kept(event.lent, &pool).collect(),
+            1 => limits::passed(event.lent, &pool).into_iter().collect(),
+            _ => Vec::new(),
+        };
+        for limit in at {
+            self.meet(F::Limit(asked, limit));
+        }
+    }
+
+    /// A walk in a session: where it marks a leaf, or aborts.
+    fn note_mark(&mut self, session: &Session, answer: &CAnswer, way: &Way) {
+        let (Way::Walked(walk) | Way::WalkedAgain(walk)) = way else {
+            return;
+        };
+        let (Some(regime), Some(&entry)) = (session.regime, walk.visited.last()) else {
+            return;
+        };
+        let pool = &regime.pool;
+        let aborted =
+            matches!(walk.answer, Answer::Fault(fault) if fault.stop.kind == FaultKind::WalkAbort);
+        if aborted && limits::is_behind(pool, entry) {
+            self.meet(F::Limit(Asked::Access, Limit::BehindPool));
+        }
+        if answer.accessed != 0 || answer.dirtied != 0 {
+            let offset = (entry - pool.address) as usize;
+            self.meet(F::Marked(Octave::of(offset)));
+            if limits::is_last(pool, entry) {
+                self.meet(F::Limit(Asked::Access, Limit::LastOfPool));
+            }
         }
     }
 
@@ -113,10 +174,15 @@ impl Tally {
         address: u64,
         value: u64,
     ) {
+        let offset = (address - regime.pool.address) as usize;
+        self.meet(F::Stored(Octave::of(offset)));
+        if limits::is_last(&regime.pool, address) {
+            self.meet(F::Limit(Asked::Store, Limit::LastOfPool));
+        }
         let mut leaf_of = 0;
         let mut table_of = 0;
         for held in session.places.iter().flatten() {
-            let visited = plain_walk(memory, regime, &read_of(held.page)).visited;
+            let visited = look(memory, regime, &read_of(held.page)).visited;
             if visited.last() == Some(&address) {
                 leaf_of += 1;
             } else if visited.contains(&address) {
@@ -134,20 +200,24 @@ impl Tally {
         }
         let offset = offset_in_memory(&regime.pool, address);
         if let (true, Some(offset)) = (leaf_of > 0, offset) {
-            let old = read_descriptor(memory, offset);
-            match (bit(old, AF), bit(value, AF)) {
-                (false, true) => self.meet(F::Effect(Effect::SetsAf)),
-                (true, false) => self.meet(F::Effect(Effect::ClearsAf)),
-                _ => {}
-            }
-            match (bit(old, AP2), bit(value, AP2)) {
-                (false, true) => self.meet(F::Effect(Effect::SetsAp2)),
-                (true, false) => self.meet(F::Effect(Effect::ClearsAp2)),
-                _ => {}
-            }
-            if bit(old, 0) && !bit(value, 0) {
-                self.meet(F::Effect(Effect::MakesInvalid));
-            }
+            self.note_effect(read_descriptor(memory, offset), value);
+        }
+    }
+
+    /// A store into the leaf of a held page: what it changes.
+    fn note_effect(&mut self, old: u64, value: u64) {
+        match (bit(old, AF), bit(value, AF)) {
+            (false, true) => self.meet(F::Effect(Effect::SetsAf)),
+            (true, false) => self.meet(F::Effect(Effect::ClearsAf)),
+            _ => {}
+        }
+        match (bit(old, AP2), bit(value, AP2)) {
+            (false, true) => self.meet(F::Effect(Effect::SetsAp2)),
+            (true, false) => self.meet(F::Effect(Effect::ClearsAp2)),
+            _ => {}
+        }
+        if bit(old, 0) && !bit(value, 0) {
+            self.meet(F::Effect(Effect::MakesInvalid));
         }
     }
 
@@ -167,6 +237,9 @@ impl Tally {
             Off::Elsewhere
         };
         self.meet(F::Off(off));
+        if limits::is_behind(pool, address) {
+            self.meet(F::Limit(Asked::Store, Limit::BehindPool));
+        }
     }
 
     fn note_access(
@@ -185,10 +258,8 @@ impl Tally {
             Answer::Refused(_) => {
                 self.meet(F::Refused(answer.refusal));
                 let lent = history.events().last().map_or(0, |event| event.lent);
-                match answer.refusal {
-                    9 if lent > MEMORY_LIMIT => self.meet(F::Odd(Odd::NineBeforeOne)),
-                    1 if lent > MEMORY_LIMIT => self.meet(F::Odd(Odd::TooLong)),
-                    _ => {}
+                if answer.refusal == 9 && lent > MEMORY_LIMIT {
+                    self.meet(F::Odd(Odd::NineBeforeOne));
                 }
                 if held.is_some() {
                     self.meet(F::RefusedHeld(answer.refusal));
@@ -291,7 +362,7 @@ impl Tally {
             self.meet(F::Odd(Odd::CleanProbe));
         }
         let event = &events[at];
-        let walk = plain_walk(&history.found(event)[..event.lent], &regime, access);
+        let walk = look(&history.found(event)[..event.lent], &regime, access);
         let now = plain_answer(&walk.answer);
         if (CAnswer { reads: 0, ..now }) != *answer {
             let end = match walk.answer {
@@ -369,9 +440,4 @@ fn read_of(page: u64) -> Access {
         el0: false,
         kind: Kind::Read,
     }
-}
-
-/// The plain walk on a copy of the memory.
-fn plain_walk(memory: &[u8], regime: &Regime, access: &Access) -> Walk {
-    walk(&mut memory.to_vec(), regime, access)
 }

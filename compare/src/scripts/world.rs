@@ -2,8 +2,10 @@
 //! them, and pages worth asking for.
 
 use crate::cases::scene::{
-    draw_device, draw_granules, draw_leaf, draw_normal, draw_table, draw_updates, Placement, Scene,
+    draw_clean_leaf, draw_device, draw_granules, draw_leaf, draw_normal, draw_table, draw_updates,
+    Placement, Scene, ENTRIES, SHORT,
 };
+use crate::limits::POOL_GRANULES;
 use crate::random::Random;
 use crate::reference::{
     first_level, lowest_index_bit, Regime, ADDRESS_FIELD, AF, AP1, AP2, DBM, GRANULE, MEMORY_LIMIT,
@@ -11,8 +13,7 @@ use crate::reference::{
 use crate::refusals;
 use crate::session::PLACES;
 
-/// Entries in a table below the first one.
-const ENTRIES: u64 = GRANULE / 8;
+const PAGE: usize = GRANULE as usize;
 
 /// Which leaves a world has.
 #[derive(Clone, Copy, Debug, PartialEq, Eq)]
@@ -33,6 +34,17 @@ pub struct World {
     pub far: Option<Regime>,
     /// First addresses of pages.
     pub pages: Vec<u64>,
+    /// Pages at the end of the pool, where the world was made for them.
+    pub ends: Option<Ends>,
+}
+
+/// Two pages by their first addresses.
+#[derive(Clone, Copy, Debug)]
+pub struct Ends {
+    /// Its leaf is the pool's last descriptor, and writable-clean.
+    pub last: u64,
+    /// Its walk asks for the first descriptor behind the pool.
+    pub behind: u64,
 }
 
 pub fn set_bit(value: u64, place: u32, to: bool) -> u64 {
@@ -62,6 +74,25 @@ struct Tree {
 
 impl Tree {
     fn draw(random: &mut Random, scene: &mut Scene, range: usize, leaves: Leaves) -> Tree {
+        let base = random.below(scene.granules());
+        Tree::draw_from(base, random, scene, range, leaves)
+    }
+
+    /// The same in the last granules of a pool that has one for each level.
+    fn draw_at_end(random: &mut Random, scene: &mut Scene, range: usize, leaves: Leaves) -> Tree {
+        let first = first_level(scene.regime.ranges[range].t);
+        let base = scene.granules() - u64::from(4 - first);
+        Tree::draw_from(base, random, scene, range, leaves)
+    }
+
+    /// The table of the first level is the granule with a number.
+    fn draw_from(
+        base: u64,
+        random: &mut Random,
+        scene: &mut Scene,
+        range: usize,
+        leaves: Leaves,
+    ) -> Tree {
         let first = usize::from(first_level(scene.regime.ranges[range].t));
         let mut tree = Tree {
             range,
@@ -72,7 +103,6 @@ impl Tree {
         };
         // A granule for each level; where there are too few, some serve two.
         let granules = scene.granules();
-        let base = random.below(granules);
         for level in first..=3 {
             let number = (base + (level - first) as u64) % granules;
             tree.tables[level] = scene.granule(number);
@@ -177,6 +207,26 @@ impl Tree {
             pages.push(self.page(scene, &indices));
         }
     }
+
+    /// In a tree at the pool's end: the last entry of the last table, and one
+    /// beside the trunk that leads to where the pool ends.
+    fn lay_ends(&self, random: &mut Random, scene: &mut Scene) -> Ends {
+        let output = scene.draw_output(random);
+        let leaf = draw_clean_leaf(random, 3, output);
+        scene.put(self.tables[3] + 8 * (ENTRIES - 1), leaf);
+
+        let entries = scene.entries(self.range, 2);
+        let index = (self.trunk[2] + random.between(1, entries - 1)) % entries;
+        let behind = draw_table(random, scene.pool_end());
+        scene.put(self.tables[2] + 8 * index, behind);
+
+        let mut past = self.aside(2, index);
+        past[3] = 0;
+        Ends {
+            last: self.page(scene, &self.aside(3, ENTRIES - 1)),
+            behind: self.page(scene, &past),
+        }
+    }
 }
 
 /// A pool, a home regime and memory behind the pool, before any tree.
@@ -184,8 +234,8 @@ fn draw_scene(random: &mut Random, least: u64, leaves: Leaves) -> Scene {
     let mut scene = Scene::new();
     let code = random.below(6) as u8;
     let granules = draw_granules(random, least);
-    let before = random.pick(&[0, 0, 1, 2]) * GRANULE as usize;
-    let behind = 2 * GRANULE as usize + random.pick(&[0, 1, 8, 4095]);
+    let before = random.pick(&[0, 0, 1, 2]) * PAGE;
+    let behind = 2 * PAGE + random.pick(&[0, 1, 8, 4095]);
     let placement = random.pick(&[
         Placement::Zero,
         Placement::Inside,
@@ -205,7 +255,7 @@ fn draw_scene(random: &mut Random, least: u64, leaves: Leaves) -> Scene {
 fn finish(random: &mut Random, scene: Scene, mut pages: Vec<u64>) -> World {
     let home = scene.regime;
     let pool_end = home.pool.start + home.pool.length;
-    let spare = (scene.memory.len() - pool_end).min(GRANULE as usize - 1);
+    let spare = (scene.memory.len() - pool_end).min(PAGE - 1);
     let some = random.below(spare as u64 + 1) as usize;
     let length = pool_end + random.pick(&[0, spare, some]);
     let mut regimes = vec![home];
@@ -216,7 +266,7 @@ fn finish(random: &mut Random, scene: Scene, mut pages: Vec<u64>) -> World {
         }
     }
     let mut far = home;
-    far.pool.length += GRANULE as usize;
+    far.pool.length += PAGE;
     let needs_more = refusals::of_set_regime(length, &far) == Some(1);
     let fits_all = refusals::of_set_regime(scene.memory.len(), &far).is_none();
 
@@ -232,6 +282,7 @@ fn finish(random: &mut Random, scene: Scene, mut pages: Vec<u64>) -> World {
         regimes,
         far: (needs_more && fits_all).then_some(far),
         pages,
+        ends: None,
     }
 }
 
@@ -246,7 +297,7 @@ pub fn vary(random: &mut Random, home: &Regime) -> Regime {
         2 => other.ranges[random.below(2) as usize].t = random.between(16, 39) as u8,
         3 => other.ranges[random.below(2) as usize].disabled ^= true,
         4 => other.pool.address ^= GRANULE,
-        5 => other.pool.length -= GRANULE as usize,
+        5 => other.pool.length -= PAGE,
         6 => {
             let shift = GRANULE * random.below(3);
             other.pool.start += shift as usize;
@@ -328,13 +379,61 @@ impl World {
         finish(random, scene, pages)
     }
 
-    /// A planned world in a memory as long as any, and one byte more.
-    pub fn long(random: &mut Random) -> World {
-        let mut world = World::planned(random, Leaves::Mixed);
-        world.memory.resize(MEMORY_LIMIT + 1, 0x5A);
-        world.length = MEMORY_LIMIT - random.pick(&[0, 1, 8]);
-        world.far = None;
+    /// A tree at the end of a long pool, with memory for a longer one. In turn
+    /// the pool is the longest, or up to a half as long, and so on down to a
+    /// short one.
+    pub fn long_pool(random: &mut Random, turn: u64) -> World {
+        let halvings = turn % u64::from((POOL_GRANULES / SHORT).ilog2() + 1);
+        let most = POOL_GRANULES >> halvings;
+        let granules = match halvings {
+            0 => most,
+            _ => random.between(most / 2 + 1, most),
+        };
+        let before = random.pick(&[0, 0, 1, 2]) * PAGE;
+        let behind = 2 * PAGE + random.pick(&[0, 1, 8, 4095]);
+        let mut world = World::at_end(random, granules, before, behind);
+        world.length = world.memory.len() - random.pick(&[1, PAGE / 2, PAGE]);
         world
+    }
+
+    /// A tree at the end of a pool in the longest memory, and one byte more.
+    /// In turn the pool is the last of that memory or not, and the longest or
+    /// a short one.
+    pub fn long_memory(random: &mut Random, turn: u64) -> World {
+        let granules = match turn / 2 % 2 {
+            0 => POOL_GRANULES,
+            _ => random.between(4, SHORT),
+        };
+        let most = MEMORY_LIMIT / PAGE - granules as usize;
+        let before = match turn % 2 {
+            0 => most,
+            _ => random.below(most as u64) as usize,
+        };
+        let behind = (most - before) * PAGE + 1;
+        let mut world = World::at_end(random, granules, before * PAGE, behind);
+        world.length = MEMORY_LIMIT;
+        world
+    }
+
+    /// A tree at the end of a pool, in which a write from EL1 makes marks, with
+    /// so much memory before and behind the pool.
+    fn at_end(random: &mut Random, granules: u64, before: usize, behind: usize) -> World {
+        let mut scene = Scene::new();
+        let code = random.below(6) as u8;
+        let placement = Placement::Inside;
+        scene.draw_within(random, code, placement, granules, before, behind);
+        (scene.regime.ha, scene.regime.hd) = (true, true);
+        scene.regime.ranges[0].disabled = false;
+        let tree = Tree::draw_at_end(random, &mut scene, 0, Leaves::Mixed);
+        let mut pages = Vec::new();
+        tree.lay(random, &mut scene, &mut pages);
+        let ends = tree.lay_ends(random, &mut scene);
+        pages.extend([ends.last, ends.behind]);
+        World {
+            far: None,
+            ends: Some(ends),
+            ..finish(random, scene, pages)
+        }
     }
 }
 

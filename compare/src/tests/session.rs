@@ -3,7 +3,7 @@
 
 use super::{access, start, LEAF, LEAF_OFFSET};
 use crate::reference::{
-    read_descriptor, write_descriptor, Access, Answer, Kind, Regime, Success, AP1, AP2,
+    read_descriptor, write_descriptor, Access, Answer, Kind, Regime, Success, AP1, AP2, POOL_LIMIT,
 };
 use crate::refusals::SET_REGIME;
 use crate::session::{page_of, place_of, Held, Session};
@@ -404,7 +404,7 @@ fn what_empties_the_places() {
     // Nothing that is refused, by whichever row.
     type Change = fn(&mut Regime);
     let changes: [(u8, Change); 6] = [
-        (1, |regime| regime.pool.length = 69_632),
+        (1, |regime| regime.pool.length = POOL_LIMIT + 4096),
         (2, |regime| regime.pool.address = 1 << 48),
         (3, |regime| regime.output_code = 6),
         (4, |regime| regime.ranges[1].root = 8),

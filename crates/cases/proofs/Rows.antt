@@ -64,5 +64,5 @@ visited : (ds : List (ℕ × ℕ)) → allPlaced (base .pool .length) ds ≡ tru
 visited ds ok = ap (λ (t : Trace). t .visited) (traced-quick base (usual Read .address .0) ds ok)
 
 pub worked : Worked
-unfolding Worked bytesOf digits allPlaced placed valueAt quick pageSize strideBits levelOf shiftOf span blockAt firstLeft cut outputBits outputLimit invalid isTable addressIn decoded entryAt followed entered descend upper rangeOf outside contextOf locate
-worked = (each rows all-sound all-computed, refl, visited (withThird 0x4000F003) refl, visited (withThird 0x40010003) refl)
+unfolding Worked bytesOf digits allPlaced placed valueAt quick pageSize strideBits unaligned pageOf levelOf shiftOf span blockAt firstLeft cut outputBits outputLimit attribute device normal memoryPoolBad poolAddressBad tszBad sizesBad rootBad rootsBad attributeBad attributesBad dirtyStateBad accessSizeBad lastByte crossing walkCheck invalid isTable addressIn decoded entryAt followed entered descend upper rangeOf outside contextOf locate
+worked = (each rows all-sound all-computed, refl, visited (withThird 0x4000F003) refl, visited (withThird 0x40010003) refl, refl, refl)

@@ -13,6 +13,9 @@ use Rattle.vmsa.specs.declared.Range.{Range}
 use Rattle.vmsa.specs.declared.Access.{Access}
 use Rattle.vmsa.specs.declared.AccessKind.{AccessKind}
 use Rattle.vmsa.specs.declared.AccessKind.the-variants.{Read, Write, Fetch, ProbeWrite}
+use Rattle.vmsa.specs.declared.Refusal.the-variants.{MemoryPool}
+use Rattle.checks.specs.declared.Checked.the-variants.{Accepted, Refused}
+use Rattle.checks.specs.Order.{walkCheck}
 use Rattle.walk.specs.Walk.{Outcome, traced, walk}
 
 -- ---- what the cases start from
@@ -44,6 +47,10 @@ base = record {
   wxn = false;
   attributes = eight 0xFF;
 }
+
+-- the regime with the longest pool; its length is P12's number, to hold the limit against
+abbrev pub longest : Regime
+longest = withPool base (workedPool 1048576)
 
 -- an access from EL0, and the one at 0x403ABC of size 4
 abbrev pub access : ℕ → ℕ → AccessKind → Access
@@ -173,8 +180,8 @@ rows =
     ∷ row base (access 0x403FFC 4 Read) tables (passed 0x80005FFC true false true) (leafNow accessedLeaf)
     ∷ row base (access 0x403FFD 4 Read) tables (refused 7) []
     -- P12
-    ∷ row (withPool base (workedPool 65536)) (usual Read) tables (passed 0x80005ABC true false true) (leafNow accessedLeaf)
-    ∷ row (withPool base (workedPool 69632)) (usual Read) tables (refused 1) []
+    ∷ row longest (usual Read) tables (passed 0x80005ABC true false true) (leafNow accessedLeaf)
+    ∷ row (withPool base (workedPool 1052672)) (usual Read) tables (refused 1) []
     -- a fault of step 1 counts no reads
     ∷ row (withRange0 base disabledRange) (usual Read) tables (failed 4 0 false 0) []
     -- a Permission fault may be remembered where the Access flag is set
@@ -187,16 +194,22 @@ rows =
     -- a leaf in the pool's last 8 bytes, and a descriptor just after the pool
     ∷ row base (access 0x5FFABC 4 Write) (withThird 0x4000F003 ++ stored 0x4000FFF8 leaf ∷ []) (passed 0x80005ABC true true true) (stored 0x4000FFF8 dirtyLeaf ∷ [])
     ∷ row base (access 0x400ABC 4 Write) (withThird 0x40010003) (failed 23 3 false 4) []
+    -- the same of the longest pool
+    ∷ row longest (access 0x5FFABC 4 Write) (withThird 0x400FF003 ++ stored 0x400FFFF8 leaf ∷ []) (passed 0x80005ABC true true true) (stored 0x400FFFF8 dirtyLeaf ∷ [])
+    ∷ row longest (access 0x400ABC 4 Write) (withThird 0x40100003) (failed 23 3 false 4) []
     ∷ []
 
 -- the descriptor addresses that the usual access visits, in order
 abbrev pub visitedIn : List (ℕ × ℕ) → List ℕ
 visitedIn found = traced base (memoryOf (base .pool .length) found) (usual Read .address .0) .visited
 
--- the claim: every row holds; P2's leaf has these bytes; P6 and P7 read these addresses, the last within the pool and just after it
+-- the claim: every row holds; P2's leaf has these bytes; P6 and P7 read these addresses, the last within the pool and just after it;
+-- a memory of so many bytes is accepted, and of one more refused
 unfoldable pub Worked : Type 0
 Worked =
     All rows
     × (bytesOf dirtyLeaf ≡ 0x43 ∷ 0x57 ∷ 0x00 ∷ 0x80 ∷ 0x00 ∷ 0x00 ∷ 0x08 ∷ 0x00 ∷ [])
     × (visitedIn (withThird 0x4000F003) ≡ 0x40000000 ∷ 0x40001000 ∷ 0x40002010 ∷ 0x4000F018 ∷ [])
     × (visitedIn (withThird 0x40010003) ≡ 0x40000000 ∷ 0x40001000 ∷ 0x40002010 ∷ 0x40010018 ∷ [])
+    × (walkCheck 16777216 base (usual Read) ≡ Accepted)
+    × (walkCheck 16777217 base (usual Read) ≡ Refused MemoryPool)

@@ -11,7 +11,7 @@ use Rattle.vmsa.specs.declared.Pool.{Pool}
 use Rattle.vmsa.specs.declared.Range.{Range}
 use Rattle.vmsa.specs.declared.Access.{Access}
 
--- 1: memory above its limit; pool start or length not a multiple of 4,096; length 0 or above 65,536; pool passes the end of memory
+-- 1: memory above its limit; pool start or length not a multiple of 4,096; length 0 or above its limit; pool passes the end of memory
 unfoldable pub memoryPoolBad : ℕ → Pool → Bool
 memoryPoolBad n pool =
     ltb memoryLimit n || unaligned pageBits (pool .start) || unaligned pageBits (pool .length) || eqb (pool .length) 0 || ltb poolLimit (pool .length)

@@ -4,11 +4,11 @@ use Rattle.vmsa.specs.declared.Regime.{Regime}
 
 -- the most bytes of lent memory (RULES 2.1)
 abbrev pub memoryLimit : ℕ
-memoryLimit = 1048576
+memoryLimit = 16777216
 
 -- the most bytes of a pool (RULES 2.2)
 abbrev pub poolLimit : ℕ
-poolLimit = 65536
+poolLimit = 1048576
 
 -- physical addresses are below this (RULES 5.1, rows 2 and 4)
 abbrev pub addressLimit : ℕ

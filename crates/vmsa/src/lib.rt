@@ -8,9 +8,9 @@ ghost use Rattle.vmsa.specs.Words.{flagByte, regimeOf, regimeWords};
 ghost use Rattle.vmsa.specs.Settings.{initial, withPool, withRange0, withRange1, withOutput, withHa, withHd, withWxn, withAttributes};
 
 // The limits of the pool, the memory and the regime; specs/Limits.antt has the same numbers.
-pub const MEMORY_LIMIT: usize = 1048576;
+pub const MEMORY_LIMIT: usize = 16777216;
 
-pub const POOL_LIMIT: usize = 65536;
+pub const POOL_LIMIT: usize = 1048576;
 
 pub const ADDRESS_LIMIT: u64 = 281474976710656;
 

@@ -21,10 +21,12 @@ use vmsa::VirtAddr;
 // The physical address of the pool's first byte; the root table stands there.
 const POOL_ADDRESS: u64 = 0x40000000;
 
-// The pool's length, and the one that is refused.
+// The pool's length, and P12's two.
 const LENGTH: usize = 65536;
 
-const LONG_LENGTH: usize = 69632;
+const LONGEST: usize = 1048576;
+
+const TOO_LONG: usize = 1052672;
 
 // The third descriptor and the leaf that the cases start from, and the leaf's offset in the pool.
 const THIRD: u64 = 0x40003003;
@@ -189,6 +191,12 @@ fn run(number: u64, r: Regime, a: Access, third: u64, leaf: u64) {
     run_in(&mut memory, number, r, a, third, leaf);
 }
 
+// Runs P12 in one memory with the longest pool, and with one page more. (If main made it a slice, the prover would write out all its bytes.)
+fn run_long(memory: &mut [u8; TOO_LONG], a: Access) {
+    run_in(memory, 12, base(LONGEST), a, THIRD, LEAF);
+    run_in(memory, 12, base(TOO_LONG), a, THIRD, LEAF);
+}
+
 // ---- a session
 
 // An access in a session, and its line.
@@ -240,9 +248,8 @@ fn main() {
     run(10, device, odd, THIRD, LEAF);
     run(11, r, access(0x403FFC, 4, AccessKind::Read), THIRD, LEAF);
     run(11, r, access(0x403FFD, 4, AccessKind::Read), THIRD, LEAF);
-    run(12, r, read, THIRD, LEAF);
-    let mut long = [0u8; LONG_LENGTH];
-    run_in(&mut long, 12, base(LONG_LENGTH), read, THIRD, LEAF);
+    let mut long = [0u8; TOO_LONG];
+    run_long(&mut long, read);
     let mut memory = [0u8; LENGTH];
     run_session(&mut memory, r);
 }

@@ -344,6 +344,21 @@ fn session_with_hd_alone() {
 }
 
 #[test]
+fn session_with_a_pool_above_its_limit() {
+    // No call leaves one. It is refused as such a regime is.
+    let mut memory = memory();
+    memory.resize(1_052_672, 0);
+    for (length, refusal) in [(1_048_576, 0), (1_052_672, 1)] {
+        let mut session = session(REGIME);
+        session.regime.length = length;
+        let answer = session_access(&mut session, &mut memory, &READ);
+        assert_eq!(answer.refusal, refusal);
+        let reply = session_store(&mut session, &mut memory, POOL, 0x4000_1003);
+        assert_eq!(reply, refusal);
+    }
+}
+
+#[test]
 fn session_keeps_each_entry_field() {
     let mut memory = memory();
     let mut session = session(REGIME);

@@ -1,5 +1,5 @@
-//! For the tests: four tables with one leaf in a pool of 65,536 bytes, as the
-//! worked cases have them (`docs/RULES.md`, 12), and random numbers.
+//! For the tests: four tables with one leaf in a pool, as the worked cases
+//! have them (`docs/RULES.md`, 12), and random numbers.
 
 #![allow(dead_code)]
 
@@ -7,6 +7,9 @@ use vmsa::{Access, OutputSize, PhysAddr, Pool, Range, Regime, VirtAddr};
 
 /// Physical address of the pool, and of its root.
 pub const POOL: u64 = 0x4000_0000;
+
+/// Bytes of the pool, and of the memory, which is the pool.
+pub const LENGTH: usize = 65_536;
 
 /// Offset of the leaf in the pool.
 pub const LEAF: usize = 0x3018;
@@ -26,7 +29,7 @@ pub fn get(memory: &[u8], offset: usize) -> u64 {
 }
 
 pub fn memory() -> Vec<u8> {
-    let mut memory = vec![0; 0x10000];
+    let mut memory = vec![0; LENGTH];
     put(&mut memory, 0x0000, 0x4000_1003);
     put(&mut memory, 0x1000, 0x4000_2003);
     put(&mut memory, 0x2010, 0x4000_3003);
@@ -36,7 +39,7 @@ pub fn memory() -> Vec<u8> {
 
 pub fn regime() -> Regime {
     Regime::new()
-        .pool(Pool::new(0, 0x10000, PhysAddr(POOL)))
+        .pool(Pool::new(0, LENGTH, PhysAddr(POOL)))
         .range0(Range::new(PhysAddr(POOL), 16))
         .output(OutputSize::Bits48)
         .ha(true)

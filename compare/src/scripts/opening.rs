@@ -1,0 +1,56 @@
+//! The first calls of a script in a world made for the end of its pool: each
+//! call that row 1 is for, over as much memory as is lent as a rule, over one
+//! byte less and over all there is.
+
+use super::world::{Ends, World};
+use crate::cases::scene::{draw_access, draw_marking_access};
+use crate::random::Random;
+use crate::reference::{Regime, GRANULE};
+use crate::session::Call;
+
+/// The calls, each with the length that it is lent.
+pub fn draw(random: &mut Random, world: &World, ends: &Ends) -> Vec<(Call, usize)> {
+    let (usual, all) = (world.length, world.memory.len());
+    let home = world.regimes[0];
+    let end = home.pool.address + home.pool.length as u64;
+    let access = Call::Access(draw_marking_access(random, ends.last));
+    let again = Call::Access(draw_access(random, ends.last));
+    let behind = Call::Access(draw_access(random, ends.behind));
+    let store = store_at(random, end - 8);
+    let store_behind = store_at(random, end);
+    vec![
+        (access, all),
+        (store, all),
+        (Call::SetRegime(home), all),
+        (Call::SetRegime(home), usual - 1),
+        (Call::SetRegime(longer(home)), usual),
+        (Call::SetRegime(later(home)), usual),
+        (Call::SetRegime(home), usual),
+        (access, usual),
+        (again, usual),
+        (again, usual - 1),
+        (again, all),
+        (store, usual),
+        (store, usual - 1),
+        (store, all),
+        (store_behind, usual),
+        (behind, usual),
+    ]
+}
+
+fn store_at(random: &mut Random, address: u64) -> Call {
+    let value = random.bits();
+    Call::Store { address, value }
+}
+
+/// The pool ends a granule later.
+fn longer(mut regime: Regime) -> Regime {
+    regime.pool.length += GRANULE as usize;
+    regime
+}
+
+/// The pool lies a granule further up.
+fn later(mut regime: Regime) -> Regime {
+    regime.pool.start += GRANULE as usize;
+    regime
+}
