@@ -3,10 +3,10 @@
 
 mod tables;
 
-use tables::{get, put, regime, CLEAN, POOL};
+use tables::{get, put, regime, CLEAN, EXTERNAL_ABORT, POOL};
 use vmsa::{
-    walk, Access, Answer, Fault, FaultKind, PhysAddr, Pool, Refusal, Regime, Session, Stop,
-    VirtAddr, MEMORY_LIMIT, POOL_LIMIT,
+    walk, Access, Answer, PhysAddr, Pool, Refusal, Regime, Session, Stop, VirtAddr, MEMORY_LIMIT,
+    POOL_LIMIT,
 };
 
 /// Where the pool starts: with the memory, or so that both end together.
@@ -59,14 +59,7 @@ fn found(answer: Answer, accessed: bool, dirtied: bool) {
 }
 
 fn abort(answer: Answer) {
-    let expected = Fault {
-        kind: FaultKind::ExternalAbort,
-        level: 3,
-        code: 23,
-        cacheable: false,
-        reads: 4,
-    };
-    assert_eq!(answer, Err(Stop::Fault(expected)));
+    assert_eq!(answer, Err(Stop::Fault(EXTERNAL_ABORT)));
 }
 
 #[test]

@@ -3,13 +3,22 @@
 
 #![allow(dead_code)]
 
-use vmsa::{Access, OutputSize, PhysAddr, Pool, Range, Regime, VirtAddr};
+use vmsa::{Access, Fault, FaultKind, OutputSize, PhysAddr, Pool, Range, Regime, VirtAddr};
 
 /// Physical address of the pool, and of its root.
 pub const POOL: u64 = 0x4000_0000;
 
 /// Bytes of the pool, and of the memory, which is the pool.
 pub const LENGTH: usize = 65_536;
+
+/// The fault where a level 3 table is past the pool, after three tables.
+pub const EXTERNAL_ABORT: Fault = Fault {
+    kind: FaultKind::ExternalAbort,
+    level: 3,
+    code: 23,
+    cacheable: false,
+    reads: 4,
+};
 
 /// Offset of the leaf in the pool.
 pub const LEAF: usize = 0x3018;
