@@ -2,9 +2,10 @@
 //! both measured in one run.
 //!
 //! `bench [CALLS]` checks that both give the same answers and prints one line
-//! for each kernel; `bench check` does the first alone. `bench count KERNEL
-//! SIDE CALLS` runs one kernel alone, for a tool that counts instructions;
-//! `bench kernels` lists the kernels.
+//! for each kernel, `bench time KERNEL` for one alone; `bench check` does no
+//! more than the check. `bench count KERNEL SIDE CALLS` runs one side of a
+//! kernel, for a tool that counts instructions; `bench kernels` lists the
+//! kernels.
 
 mod boundary;
 mod check;
@@ -25,13 +26,17 @@ fn main() -> ExitCode {
     let arguments: Vec<String> = env::args().skip(1).collect();
     let arguments: Vec<&str> = arguments.iter().map(String::as_str).collect();
     match arguments[..] {
-        [] => measure(CALLS),
+        [] => measure(&Kernel::ALL, CALLS),
         ["check"] => check(),
         ["kernels"] => {
             for kernel in Kernel::ALL {
                 println!("{}", kernel.name());
             }
         }
+        ["time", kernel] => match Kernel::named(kernel) {
+            Some(kernel) => measure(&[kernel], CALLS),
+            None => return usage(),
+        },
         ["count", kernel, side, calls] => {
             let (Some(kernel), Some(side), Ok(calls)) =
                 (Kernel::named(kernel), Side::named(side), calls.parse())
@@ -41,7 +46,7 @@ fn main() -> ExitCode {
             black_box(Bed::new(kernel).run(kernel, side, calls));
         }
         [calls] => match calls.parse() {
-            Ok(calls) if calls >= ROUNDS => measure(calls),
+            Ok(calls) if calls >= ROUNDS => measure(&Kernel::ALL, calls),
             _ => return usage(),
         },
         _ => return usage(),
@@ -53,6 +58,7 @@ fn usage() -> ExitCode {
     eprintln!("bench [CALLS, at least {ROUNDS}]");
     eprintln!("bench check");
     eprintln!("bench kernels");
+    eprintln!("bench time KERNEL");
     eprintln!("bench count KERNEL ours|plain|loop CALLS");
     ExitCode::FAILURE
 }
@@ -62,14 +68,14 @@ fn check() {
     println!("{compared} random calls: all answers and all bytes the same on both sides");
 }
 
-fn measure(calls: u64) {
+fn measure(kernels: &[Kernel], calls: u64) {
     check();
     let calls = calls / ROUNDS;
     println!(
         "{ROUNDS} rounds of {calls} calls for each side in turn; median; \
          call against call (no plain function is inlined)"
     );
-    for kernel in Kernel::ALL {
+    for &kernel in kernels {
         let mut bed = Bed::new(kernel);
         let mut times = [Vec::new(), Vec::new()];
         for round in 0..ROUNDS {
@@ -85,7 +91,7 @@ fn measure(calls: u64) {
         assert!(bed.same_memory(), "{}: other bytes", kernel.name());
         let [ours, plain] = times.map(median);
         println!(
-            "{:<15} ours {ours:7.1} ns  plain {plain:7.1} ns  ratio {:6.2}",
+            "{:<15} ours {ours:8.2} ns  plain {plain:8.2} ns  ratio {:6.2}",
             kernel.name(),
             ours / plain,
         );

@@ -1,5 +1,5 @@
 -- The laws of `desc` and `put` that callers use, and the steps from them to the code.
-use Prim.Native.Nat.{ℕ, zero, suc, _+_, _*_, _/_, _%_, _^_, _<_, _≤_, _-_}
+use Prim.Native.Nat.{ℕ, zero, suc, _+_, _/_, _%_, _^_, _<_, _≤_, _-_}
 use mathlib.Core.Path.{_≡_, refl, sym, ap, subst, _∙_}
 use mathlib.Core.List.{List, [], _∷_, _++_, append-assoc}
 use native.Mathlib.Nat.{add-suc, add-zero, add-assoc}
@@ -29,16 +29,6 @@ window (suc n) l at k h =
 
 pub window0 : (n : ℕ) (l : List ℕ) (at : ℕ) → at + n ≤ length l → take n (drop at l) ≡ cells n l at 0
 window0 n l at h = rw (add-zero at) at (window n l at 0 (omega arith))
-
-pub four : (l : List ℕ) (at : ℕ) → at + 4 ≤ length l
-    → number (take 4 (drop at l)) ≡ getD l at 0 + 256 * (getD l (at + 1) 0 + 256 * (getD l (at + 2) 0 + 256 * getD l (at + 3) 0))
-unfolding number cells
-four l at h = rw (window0 4 l at h, add-zero at) (omega arith)
-
-pub join : (l : List ℕ) (at : ℕ) → at + 8 ≤ length l
-    → number (take 4 (drop at l)) + 4294967296 * number (take 4 (drop (at + 4) l)) ≡ desc l at
-unfolding number cells desc valueOf
-join l at h = rw (window0 8 l at h, window0 4 l at (omega arith), window 4 l at 4 (omega arith)) (omega arith)
 
 -- ---- what the code writes
 

@@ -1,28 +1,23 @@
 // A descriptor of 8 bytes in lent memory, and the bits of a descriptor.
 ghost use mathlib.Core.Path.{_≡_};
 ghost use Prim.Native.Nat.{_+_, _≤_, _<_, _^_};
-ghost use lib.ListN.{length, getD, take, drop};
+ghost use mathlib.Core.List.{[], _∷_};
+ghost use lib.ListN.{length};
 ghost use Rattle.descriptor.specs.Bytes.{number, desc, put};
 ghost use Rattle.descriptor.specs.Bits.{pick, bit as bitOf, field as fieldOf, setBit, clearBit};
 
-// The byte at an offset.
-fn byte(memory: &[u8], at: usize) -> u64
-    requires { ⌜ at < length (now memory) ⌝ }
-    ensures { λ r. ⌜ (r ≡ getD (now (memory .entry)) at 0) × (r < 256) ⌝ }
+// The number in eight bytes, the lowest first. Shifted apart they share no bit: `+` is `|` here.
+fn from_le_bytes(b0: u8, b1: u8, b2: u8, b3: u8, b4: u8, b5: u8, b6: u8, b7: u8) -> u64
+    ensures { λ r. ⌜ r ≡ number (b0 ∷ b1 ∷ b2 ∷ b3 ∷ b4 ∷ b5 ∷ b6 ∷ b7 ∷ []) ⌝ }
 {
-    memory[at] as u64
-}
-
-// The number in four bytes, the lowest first.
-fn half(memory: &[u8], at: usize) -> u64
-    requires { ⌜ at + 4 ≤ length (now memory) ⌝ }
-    ensures { λ r. ⌜ (r ≡ number (take 4 (drop at (now (memory .entry))))) × (r < 2 ^ 32) ⌝ }
-{
-    let b0 = byte(memory, at);
-    let b1 = byte(memory, at + 1);
-    let b2 = byte(memory, at + 2);
-    let b3 = byte(memory, at + 3);
-    b0 + 256 * (b1 + 256 * (b2 + 256 * b3))
+    (b0 as u64)
+        + ((b1 as u64) << 8)
+        + ((b2 as u64) << 16)
+        + ((b3 as u64) << 24)
+        + ((b4 as u64) << 32)
+        + ((b5 as u64) << 40)
+        + ((b6 as u64) << 48)
+        + ((b7 as u64) << 56)
 }
 
 // The descriptor at an offset.
@@ -30,7 +25,16 @@ pub fn load(memory: &[u8], at: usize) -> u64
     requires { ⌜ at + 8 ≤ length (now memory) ⌝ }
     ensures { λ r. ⌜ r ≡ desc (now (memory .entry)) at ⌝ }
 {
-    half(memory, at) + 4294967296 * half(memory, at + 4)
+    from_le_bytes(
+        memory[at],
+        memory[at + 1],
+        memory[at + 2],
+        memory[at + 3],
+        memory[at + 4],
+        memory[at + 5],
+        memory[at + 6],
+        memory[at + 7],
+    )
 }
 
 // Writes a descriptor at an offset, and no other byte.
