@@ -1,8 +1,9 @@
 //! Both sides on random descriptors, tables, regimes and accesses, on any two
-//! mistakes of a call, and at the limits: each whole answer and each byte of
-//! memory is to be the same.
+//! mistakes of a call, at the limits, and on every leaf under all that tables
+//! can take away: each whole answer and each byte of memory is to be the same.
 
-use crate::boundary::{self, Access, Regime, FAULT, READ, REFUSED, SUCCESS, WRITE};
+use crate::boundary::{self, Access, Regime};
+use crate::boundary::{FAULT, FETCH, PROBE_READ, PROBE_WRITE, READ, REFUSED, SUCCESS, WRITE};
 use crate::kernels::{self, LEAF_TABLES};
 use crate::plain::{self, MEMORY_LIMIT, POOL_LIMIT};
 
@@ -43,6 +44,8 @@ impl Random {
         regime.hd = flag(0) & flag(1);
         regime.wxn = flag(2);
         regime.disabled1 = flag(3) & flag(4);
+        regime.hpd0 = flag(5) & flag(6);
+        regime.hpd1 = 2 * flag(7);
         if self.rarely() {
             regime.disabled0 = 2;
         }
@@ -102,9 +105,15 @@ impl Random {
         }
     }
 
-    /// The descriptor there, with random bits turned over.
+    /// The descriptor there, with random bits turned over, those of a table or
+    /// those of a leaf.
     fn disturbed(&mut self, memory: &[u8], at: usize) -> u64 {
-        let bits = 1 << self.below(64) | 1 << [2, 3, 6, 7, 10, 51, 53, 54][self.below(8) as usize];
+        let which: &[u32] = if at < 0x3000 {
+            &[59, 60, 61, 62, 63]
+        } else {
+            &[2, 3, 6, 7, 10, 51, 53, 54]
+        };
+        let bits = 1 << self.below(64) | 1 << which[self.below(which.len() as u64) as usize];
         let old = u64::from_le_bytes(memory[at..at + 8].try_into().expect("8 bytes"));
         old ^ bits
     }
@@ -148,6 +157,7 @@ pub fn same_answers() -> u32 {
     let mut random = Random(0x9e37_79b9_7f4a_7c15);
     same_refusals();
     same_limits();
+    same_under_tables();
     same_descriptors(&mut random) + same_walks(&mut random)
 }
 
@@ -230,6 +240,109 @@ fn fill_to_the_end(pool: &mut [u8]) {
     let end = kernels::POOL_ADDRESS + pool.len() as u64;
     kernels::put(pool, POOL_LIMIT - 8, 0x0008_0000_8000_03c3);
     kernels::put(pool, 0x2000 + 8 * LEAF_TABLES as usize, end + 3);
+}
+
+/// A memory and a session for each side.
+struct Sides {
+    memory: [Vec<u8>; 2],
+    ours: boundary::Session,
+    plain: plain::Session,
+}
+
+impl Sides {
+    fn new() -> Sides {
+        Sides {
+            memory: [kernels::memory(), kernels::memory()],
+            ours: boundary::Session::empty(),
+            plain: plain::Session::empty(),
+        }
+    }
+
+    fn put(&mut self, at: usize, value: u64) {
+        for memory in &mut self.memory {
+            kernels::put(memory, at, value);
+        }
+    }
+
+    fn set_regime(&mut self, regime: &Regime) {
+        assert_eq!(self.ours.set_regime(&self.memory[0], regime), 0);
+        assert_eq!(self.plain.set_regime(&self.memory[1], regime), 0);
+    }
+
+    fn invalidate_all(&mut self) {
+        self.ours.invalidate_all();
+        self.plain.invalidate_all();
+    }
+
+    /// A walk, or an access in the session where no regime is given.
+    fn ask(&mut self, regime: Option<&Regime>, access: &Access) {
+        let [ours, plain] = &mut self.memory;
+        let answers = match regime {
+            Some(regime) => [
+                boundary::walk(ours, regime, access),
+                plain::walk(plain, regime, access),
+            ],
+            None => [
+                self.ours.access(ours, access),
+                self.plain.access(plain, access),
+            ],
+        };
+        assert_eq!(answers[0], answers[1], "{access:?}");
+        assert_eq!(ours[LEAF..][..8], plain[LEAF..][..8], "{access:?}");
+    }
+}
+
+/// Where the leaf of the page at 0x400000 lies.
+const LEAF: usize = 0x3000;
+
+/// The page under every sum of its tables' bits 62 to 59, in one of the three
+/// tables or among them.
+fn same_under_tables() {
+    let mut sides = Sides::new();
+    for sum in 0..16 {
+        let among = [sum & 0b1010, sum & 0b0110, sum & 0b0101];
+        for [first, second, third] in [[sum, 0, 0], [0, sum, 0], [0, 0, sum], among] {
+            sides.put(0x0000, 0x4000_1003 | first << 59);
+            sides.put(0x1000, 0x4000_2003 | second << 59);
+            sides.put(0x2010, 0x4000_3003 | third << 59);
+            same_leaves(&mut sides);
+        }
+    }
+    assert!(sides.memory[0] == sides.memory[1], "other bytes");
+}
+
+/// Every combination of the leaf's AP[1], AP[2], DBM, PXN and UXN, and of WXN,
+/// HPD0 and HPD1.
+fn same_leaves(sides: &mut Sides) {
+    for bits in 0..32 {
+        let leaf = 0x8000_0703 | (bits & 3) << 6 | (bits >> 2 & 1) << 51 | bits >> 3 << 53;
+        for flags in 0..8 {
+            let mut regime = kernels::regime(kernels::MEMORY);
+            regime.wxn = flags & 1;
+            regime.hpd0 = flags & 2;
+            regime.hpd1 = flags & 4;
+            sides.set_regime(&regime);
+            same_rights(sides, &regime, leaf);
+        }
+    }
+}
+
+/// Each kind of access, from each level and in each range: by a walk, by a miss
+/// in the session and by the hit after it.
+fn same_rights(sides: &mut Sides, regime: &Regime, leaf: u64) {
+    for kind in [READ, WRITE, FETCH, PROBE_READ, PROBE_WRITE] {
+        let size = if kind < PROBE_READ { 4 } else { 1 };
+        for (el0, range) in [(0, 0), (1, 0), (0, 0xffff << 48), (1, 0xffff << 48)] {
+            let mut access = access(range | 0x40_0abc, size, kind);
+            access.el0 = el0;
+            sides.put(LEAF, leaf);
+            sides.ask(Some(regime), &access);
+            sides.put(LEAF, leaf);
+            sides.invalidate_all();
+            sides.ask(None, &access);
+            sides.ask(None, &access);
+        }
+    }
 }
 
 /// Loads and stores, half of them in fewer than 16 bytes.

@@ -143,7 +143,9 @@ pub fn regime(length: usize) -> Regime {
         ha: 1,
         hd: 1,
         wxn: 0,
-        spare: [0; 8],
+        hpd0: 0,
+        hpd1: 0,
+        spare: [0; 6],
     }
 }
 

@@ -23,6 +23,12 @@ const DBM: u64 = 1 << 51;
 const PXN: u64 = 1 << 53;
 const UXN: u64 = 1 << 54;
 
+// Bits of a table descriptor.
+const PXN_TABLE: u64 = 1 << 59;
+const UXN_TABLE: u64 = 1 << 60;
+const NO_EL0: u64 = 1 << 61;
+const NO_WRITE: u64 = 1 << 62;
+
 #[inline(never)]
 pub fn load(memory: &[u8], at: usize) -> u64 {
     match memory.get(at..).and_then(|rest| rest.first_chunk()) {
@@ -38,10 +44,12 @@ pub fn store(memory: &mut [u8], at: usize, value: u64) {
     }
 }
 
-/// A leaf descriptor, and the levels below it.
+/// A leaf descriptor, those of the tables on the way to it, added up (four of
+/// their bits count), and the levels below it.
 #[derive(Clone, Copy)]
 struct Leaf {
     value: u64,
+    tables: u64,
     left: u8,
 }
 
@@ -137,6 +145,7 @@ fn find(pool: &[u8], regime: &Regime, address: u64) -> Result<Found, Answer> {
     } else {
         (regime.root0, regime.tsz0, regime.disabled0, 0)
     };
+    let hpd = if high { regime.hpd1 } else { regime.hpd0 };
     let bits = 64 - tsz;
     if disabled != 0 || address >> bits != top >> bits {
         return Err(fault(TRANSLATION, 0, 0));
@@ -149,6 +158,7 @@ fn find(pool: &[u8], regime: &Regime, address: u64) -> Result<Found, Answer> {
     let input = address & ((1 << bits) - 1);
     let mut table = root;
     let mut left = (51 - tsz) / 9;
+    let mut tables = 0;
     let mut reads = 0;
     loop {
         let level = 3 - left;
@@ -176,10 +186,15 @@ fn find(pool: &[u8], regime: &Regime, address: u64) -> Result<Found, Answer> {
             if table >= limit {
                 return stop(ADDRESS_SIZE, reads);
             }
+            tables |= value;
             left -= 1;
             continue;
         }
-        let leaf = Leaf { value, left };
+        let leaf = Leaf {
+            value,
+            tables: if hpd != 0 { 0 } else { tables },
+            left,
+        };
         if leaf.base() >= limit {
             return stop(ADDRESS_SIZE, reads);
         }
@@ -201,6 +216,7 @@ impl Leaf {
     fn judge(self, regime: &Regime, access: &Access, reads: u8) -> Answer {
         let level = 3 - self.left;
         let is = |bit: u64| self.value & bit != 0;
+        let under = |bit: u64| self.tables & bit != 0;
         let ha = regime.ha != 0;
         if !is(AF) && !ha {
             return fault(ACCESS_FLAG + u16::from(level), level, reads);
@@ -219,12 +235,15 @@ impl Leaf {
 
         let el0 = access.el0 != 0;
         let wxn = regime.wxn != 0;
-        let writable = !is(AP2) || (is(DBM) && ha && regime.hd != 0);
+        let user = || is(AP1) && !under(NO_EL0);
+        let uxn = || is(UXN) || under(UXN_TABLE);
+        let pxn = || is(PXN) || under(PXN_TABLE);
+        let writable = !under(NO_WRITE) && (!is(AP2) || (is(DBM) && ha && regime.hd != 0));
         let permitted = match access.kind {
-            READ | PROBE_READ => !el0 || is(AP1),
-            FETCH if el0 => !(device || is(UXN) || wxn && is(AP1) && writable),
-            FETCH => !(device || is(PXN) || (is(AP1) || wxn) && writable),
-            _ => writable && (!el0 || is(AP1)),
+            READ | PROBE_READ => !el0 || user(),
+            FETCH if el0 => !(device || uxn() || wxn && user() && writable),
+            FETCH => !(device || pxn() || (user() || wxn) && writable),
+            _ => writable && (!el0 || user()),
         };
         if !permitted {
             return fault(PERMISSION + u16::from(level));

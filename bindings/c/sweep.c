@@ -62,7 +62,7 @@ static int one_in(unsigned n)
 /* How the calls ended, and the number over all that they left. */
 
 static unsigned successes, faults, refusals[UINT8_MAX + 1], accepted, held,
-    accessed, dirtied;
+    under, accessed, dirtied;
 static uint64_t digest = UINT64_C(0xCBF29CE484222325);
 
 static void add(const void *from, size_t size)
@@ -118,7 +118,10 @@ static unsigned first_page(void)
 static const unsigned indexes[] = { 0, 1, 2, 3, 511 };
 #define INDEXES (sizeof indexes / sizeof indexes[0])
 
-/* A table above level 3, and a page there; at times a block, or neither. */
+/*
+ * A table above level 3, and a page there; at times a block, or neither. One in
+ * eight has something in bits 63 to 59.
+ */
 static uint64_t descriptor(void)
 {
     unsigned which = below(32);
@@ -126,6 +129,8 @@ static uint64_t descriptor(void)
     uint64_t flags = value & UINT64_C(0x0078000000000FFC);
     uint64_t page = below(which == 0 ? 4 * extent.pool : extent.pool);
 
+    if (one_in(8))
+        flags |= value & UINT64_C(0xF800000000000000);
     if (which == 1)
         return value;
     if (which == 2)
@@ -198,6 +203,8 @@ static struct vmsa_regime random_regime(void)
     r.ha = (uint8_t)!one_in(4);
     r.hd = (uint8_t)(r.ha ? !one_in(4) : one_in(32)); /* alone: refused */
     r.wxn = (uint8_t)one_in(4);
+    r.hpd0 = (uint8_t)one_in(4);
+    r.hpd1 = (uint8_t)one_in(4);
     memset(r.spare, (int)below(256), sizeof r.spare);
     return r;
 }
@@ -294,6 +301,8 @@ static void access_session(void)
     memset(&answer, 0xAA, sizeof answer);
     vmsa_session_access(&session, memory, length_now(), &access, &answer);
     add_answer(&answer);
+    under += answer.cacheable && answer.reads == 0 &&
+             session.entries[access.address / 4096 % VMSA_ENTRIES].tables != 0;
 }
 
 static void call(void)
@@ -342,8 +351,8 @@ int main(void)
         run_world();
     }
     printf("%u successes (%u set the Access flag, %u marked dirty), %u faults, "
-           "%u of both from an entry\n",
-           successes, accessed, dirtied, faults, held);
+           "%u of both from an entry (%u under tables that take away)\n",
+           successes, accessed, dirtied, faults, held, under);
     printf("%u accepted; refused, by number:", accepted);
     for (i = 1; i <= UINT8_MAX; i++)
         if (refusals[i] != 0)

@@ -1,7 +1,8 @@
 /*
  * Runs the library over the worked cases P1 to P12, every refusal, the largest
- * pool and memory, a script of a session, the spare bytes, VMSA_REGIME_INIT and
- * the texts; prints how many checks were made, and how many failed.
+ * pool and memory, a script of a session, the bits of tables, the spare bytes,
+ * VMSA_REGIME_INIT and the texts; prints how many checks were made, and how
+ * many failed.
  *
  * Each call goes through one of the expect functions. It takes what the call
  * is given and its answer; want has what the call is to leave of memory and
@@ -13,10 +14,11 @@
 
 #include "vmsa.h"
 
-#define POOL UINT64_C(0x40000000)  /* physical address of the pool */
-#define LENGTH 65536u              /* bytes of the pool, and of the memory */
-#define THIRD UINT64_C(0x40002010) /* of the level 2 descriptor */
-#define LEAF UINT64_C(0x40003018)  /* of the leaf descriptor of page 0x403 */
+#define POOL UINT64_C(0x40000000)   /* physical address of the pool */
+#define LENGTH 65536u               /* bytes of the pool, and of the memory */
+#define SECOND UINT64_C(0x40001000) /* of the level 1 descriptor */
+#define THIRD UINT64_C(0x40002010)  /* of the level 2 descriptor */
+#define LEAF UINT64_C(0x40003018)   /* of the leaf descriptor of page 0x403 */
 #define PAGE 0x403
 #define ADDRESS UINT64_C(0x403ABC)
 #define FRAME UINT64_C(0x80005000)
@@ -25,6 +27,13 @@
 #define CLEAN UINT64_C(0x00080000800053C3) /* the leaf: writable-clean, AF 0 */
 #define READ UINT64_C(0x00080000800057C3)  /* the leaf after a read */
 #define DIRTY UINT64_C(0x0008000080005743) /* the leaf after a write */
+
+/* Bits of a table descriptor. */
+#define NO_SAY (UINT64_C(1) << 63)
+#define NO_WRITE (UINT64_C(1) << 62)
+#define NO_EL0 (UINT64_C(1) << 61)
+#define NO_EL0_FETCH (UINT64_C(1) << 60)
+#define NO_EL1_FETCH (UINT64_C(1) << 59)
 
 #define LIMIT48 (UINT64_C(1) << 48)
 
@@ -259,7 +268,7 @@ static void lend(uint8_t *room, uint8_t *wanted, size_t size, size_t zeros)
 static void given_tables(void)
 {
     given(POOL, 0x40001003);
-    given(0x40001000, 0x40002003);
+    given(SECOND, 0x40002003);
     given(THIRD, TABLE);
     given(LEAF, CLEAN);
 }
@@ -271,8 +280,11 @@ static void fresh(void)
     given_tables();
 }
 
-/* What the session is to hold of a page whose leaf is at level 3. */
-static void holds(uint64_t page, uint64_t leaf)
+/*
+ * What the session is to hold of a page whose leaf is at level 3, under tables
+ * with these bits.
+ */
+static void holds_under(uint8_t tables, uint64_t page, uint64_t leaf)
 {
     struct vmsa_entry *entry = &want.session.entries[page % VMSA_ENTRIES];
 
@@ -280,6 +292,12 @@ static void holds(uint64_t page, uint64_t leaf)
     entry->page = page;
     entry->value = leaf;
     entry->held = 1;
+    entry->tables = tables;
+}
+
+static void holds(uint64_t page, uint64_t leaf)
+{
+    holds_under(0, page, leaf);
 }
 
 static void holds_nothing(void)
@@ -387,6 +405,20 @@ static void test_worked_leaf(void)
     put(&want, 0x4000F018, READ);
     expect_walk("P6, a leaf", worked_regime(), a_read(),
                 found(FRAME + 0xABC, AF, 4));
+}
+
+/* P2 under bit 62 of the second table, without HPD and with it. */
+static void test_worked_tables(void)
+{
+    struct vmsa_regime regime = worked_regime();
+
+    fresh();
+    given(SECOND, UINT64_C(0x40002003) | NO_WRITE);
+    expect_walk("P2, bit 62", regime, a_write(), fault(15, 3, 4));
+    regime.hpd0 = 1;
+    put(&want, LEAF, DIRTY);
+    expect_walk("P2, bit 62, HPD", regime, a_write(),
+                found(FRAME + 0xABC, AF | DIRTIED, 4));
 }
 
 /* The worked cases over a pool, and so a memory, of another length. */
@@ -811,6 +843,212 @@ static void test_entries(void)
     expect_access("fault, held", access_of(VMSA_READ, far, 4), held);
 }
 
+/* Bits of tables */
+
+#define UPPER (ADDRESS | UINT64_C(0xFFFF) << 48) /* the page in range 1 */
+#define EL1_ONLY (READ & ~UINT64_C(0x40))        /* its leaf with AP[1] 0 */
+
+/* An access under tables with bits; the leaf has its Access flag set. */
+struct under {
+    const char *name;
+    uint64_t bits[3]; /* in the descriptors of levels 0 to 2 */
+    uint8_t tables;   /* what an entry holds of them */
+    uint64_t leaf;
+    uint8_t el0;
+    unsigned kind;
+    uint8_t wxn;
+    int passes;       /* where the bits count */
+    int passes_hpd;   /* where they do not */
+};
+
+static const struct under under[] = {
+    { "no bit", { 0, 0, 0 }, 0, READ, 1, VMSA_WRITE, 0, 1, 1 },
+    { "62, level 0", { NO_WRITE, 0, 0 }, 8, READ, 1, VMSA_WRITE, 0, 0, 1 },
+    { "62, level 1", { 0, NO_WRITE, 0 }, 8, READ, 1, VMSA_WRITE, 0, 0, 1 },
+    { "62, level 2", { 0, 0, NO_WRITE }, 8, READ, 1, VMSA_WRITE, 0, 0, 1 },
+    { "62, EL1", { 0, 0, NO_WRITE }, 8, READ, 0, VMSA_WRITE, 0, 0, 1 },
+    { "62, dirty", { 0, 0, NO_WRITE }, 8, DIRTY, 1, VMSA_WRITE, 0, 0, 1 },
+    { "62, update", { 0, 0, NO_WRITE }, 8, DIRTY, 1, VMSA_UPDATE, 0, 0, 1 },
+    { "62, probe", { 0, 0, NO_WRITE }, 8, READ, 1, VMSA_PROBE_WRITE, 0, 0, 1 },
+    { "62, read", { 0, 0, NO_WRITE }, 8, READ, 1, VMSA_READ, 0, 1, 1 },
+    { "62, fetch, EL1", { 0, NO_WRITE, 0 }, 8, READ, 0, VMSA_FETCH, 0, 1, 0 },
+    { "62, fetch, WXN", { 0, NO_WRITE, 0 }, 8, READ, 1, VMSA_FETCH, 1, 1, 0 },
+    { "61, level 0", { NO_EL0, 0, 0 }, 4, READ, 1, VMSA_READ, 0, 0, 1 },
+    { "61, level 1", { 0, NO_EL0, 0 }, 4, READ, 1, VMSA_READ, 0, 0, 1 },
+    { "61, level 2", { 0, 0, NO_EL0 }, 4, READ, 1, VMSA_READ, 0, 0, 1 },
+    { "61, EL1", { 0, 0, NO_EL0 }, 4, READ, 0, VMSA_READ, 0, 1, 1 },
+    { "61, write", { 0, 0, NO_EL0 }, 4, READ, 1, VMSA_WRITE, 0, 0, 1 },
+    { "61, write, EL1", { 0, 0, NO_EL0 }, 4, READ, 0, VMSA_WRITE, 0, 1, 1 },
+    { "61, fetch", { 0, NO_EL0, 0 }, 4, READ, 1, VMSA_FETCH, 0, 1, 1 },
+    { "61, fetch, EL1", { 0, NO_EL0, 0 }, 4, READ, 0, VMSA_FETCH, 0, 1, 0 },
+    { "61, fetch, WXN", { 0, NO_EL0, 0 }, 4, READ, 1, VMSA_FETCH, 1, 1, 0 },
+    { "61, fetch, EL1, WXN", { 0, NO_EL0, 0 }, 4, READ, 0, VMSA_FETCH, 1, 0,
+      0 },
+    { "60, level 0", { NO_EL0_FETCH, 0, 0 }, 2, READ, 1, VMSA_FETCH, 0, 0, 1 },
+    { "60, level 2", { 0, 0, NO_EL0_FETCH }, 2, READ, 1, VMSA_FETCH, 0, 0, 1 },
+    { "60, EL1", { 0, 0, NO_EL0_FETCH }, 2, EL1_ONLY, 0, VMSA_FETCH, 0, 1, 1 },
+    { "59, level 0", { NO_EL1_FETCH, 0, 0 }, 1, EL1_ONLY, 0, VMSA_FETCH, 0, 0,
+      1 },
+    { "59, level 2", { 0, 0, NO_EL1_FETCH }, 1, EL1_ONLY, 0, VMSA_FETCH, 0, 0,
+      1 },
+    { "59, EL0", { 0, 0, NO_EL1_FETCH }, 1, READ, 1, VMSA_FETCH, 0, 1, 1 },
+    { "62 and 61", { NO_EL0, 0, NO_WRITE }, 12, READ, 0, VMSA_WRITE, 0, 0, 1 },
+    { "61 and 62", { NO_WRITE, 0, NO_EL0 }, 12, READ, 1, VMSA_READ, 0, 0, 1 },
+    { "all four", { NO_EL1_FETCH, NO_EL0_FETCH | NO_EL0, NO_WRITE }, 15, READ,
+      0, VMSA_READ, 0, 1, 1 },
+    { "63", { NO_SAY, NO_SAY, NO_SAY }, 0, READ, 1, VMSA_WRITE, 0, 1, 1 },
+    { "the leaf's", { 0, 0, 0 }, 0, READ | UINT64_C(31) << 59, 1, VMSA_WRITE, 0,
+      1, 1 },
+    { "the leaf's, fetch", { 0, 0, 0 }, 0, EL1_ONLY | UINT64_C(31) << 59, 0,
+      VMSA_FETCH, 0, 1, 1 }
+};
+
+static void fresh_under(const struct under *row)
+{
+    fresh();
+    given(POOL, UINT64_C(0x40001003) | row->bits[0]);
+    given(SECOND, UINT64_C(0x40002003) | row->bits[1]);
+    given(THIRD, TABLE | row->bits[2]);
+    given(LEAF, row->leaf);
+}
+
+/* What the access leaves of the leaf, where it passes. */
+static uint64_t leaf_after(const struct under *row)
+{
+    const int writes = row->kind == VMSA_WRITE || row->kind == VMSA_UPDATE;
+
+    return writes ? row->leaf & ~UINT64_C(0x80) : row->leaf;
+}
+
+/*
+ * A walk in one of the ranges, then a miss and a hit in a session. own is HPD
+ * of that range, other that of the other, which has no say.
+ */
+static void expect_under(const struct under *row, int upper, uint8_t own,
+                         uint8_t other)
+{
+    const uint64_t address = upper ? UPPER : ADDRESS;
+    const int passes = own != 0 ? row->passes_hpd : row->passes;
+    const uint64_t after = passes ? leaf_after(row) : row->leaf;
+    struct vmsa_access access = access_of(row->kind, address, 4);
+    struct vmsa_regime regime = worked_regime();
+    struct vmsa_answer answer = fault(15, 3, 4);
+
+    regime.wxn = row->wxn;
+    regime.hpd0 = upper ? other : own;
+    regime.hpd1 = upper ? own : other;
+    access.el0 = row->el0;
+    if (row->kind == VMSA_PROBE_WRITE)
+        access.size = 1;
+    answer.cacheable = 1;
+    if (passes)
+        answer = found(FRAME + 0xABC, after != row->leaf ? DIRTIED : 0, 4);
+
+    fresh_under(row);
+    put(&want, LEAF, after);
+    expect_walk(row->name, regime, access, answer);
+
+    fresh_under(row);
+    want.session.regime = regime;
+    want.session.regime.hpd0 = regime.hpd0 != 0;
+    want.session.regime.hpd1 = regime.hpd1 != 0;
+    want.session.set = 1;
+    expect_set(row->name, regime, VMSA_ACCEPTED);
+    put(&want, LEAF, after);
+    holds_under(own != 0 ? 0 : row->tables, address >> 12, after);
+    expect_access(row->name, access, answer);
+    answer.reads = 0;
+    answer.dirtied = 0;
+    expect_access(row->name, access, answer);
+}
+
+static void test_tables(void)
+{
+    static const uint8_t flags[] = { 0, 1, 0x80 };
+    size_t i, own, other;
+    int upper;
+
+    for (i = 0; i < sizeof under / sizeof under[0]; i++)
+        for (upper = 0; upper < 2; upper++)
+            for (own = 0; own < sizeof flags; own++)
+                for (other = 0; other < 2; other++)
+                    expect_under(&under[i], upper, flags[own], flags[other]);
+}
+
+/* A table on the way of one address is the leaf of another. */
+static void test_table_as_leaf(void)
+{
+    const uint64_t first = UINT64_C(0x40001003) | NO_WRITE;
+    const uint64_t through_root = UINT64_C(0x8040200ABC); /* 1, 1, 1, 0 */
+    struct vmsa_access access = access_of(VMSA_WRITE, through_root, 4);
+    struct vmsa_answer answer = found(0x40001ABC, AF, 4);
+
+    access.el0 = 0;
+    answer.shareability = 0;
+    fresh();
+    given(POOL, first);
+    given(POOL + 8, POOL | 3);
+    put(&want, POOL, first | 0x400);
+    expect_walk("62 of a leaf", worked_regime(), access, answer);
+    expect_walk("62 of a table", worked_regime(), a_write(), fault(15, 3, 4));
+}
+
+/* An entry holds the sum as the walk met it, until it is walked again. */
+static void test_tables_held(void)
+{
+    const uint64_t output = FRAME + 0xABC;
+    struct vmsa_answer met = fault(15, 3, 4), held = fault(15, 3, 0);
+
+    met.cacheable = held.cacheable = 1;
+    started();
+    put(&want, THIRD, TABLE | NO_EL0);
+    expect_store("61 comes", THIRD, TABLE | NO_EL0, VMSA_ACCEPTED);
+    expect_access("61, not seen", a_read(), found(output, 0, 0));
+    holds_nothing();
+    expect_invalidate("61, dropped");
+    holds_under(4, PAGE, READ);
+    expect_access("61, seen", a_read(), met);
+    put(&want, THIRD, TABLE);
+    expect_store("61 goes", THIRD, TABLE, VMSA_ACCEPTED);
+    expect_access("61, held", a_read(), held);
+
+    /* A write that would mark the page dirty walks, and meets the bit. */
+    started();
+    put(&want, THIRD, TABLE | NO_WRITE);
+    expect_store("62 comes", THIRD, TABLE | NO_WRITE, VMSA_ACCEPTED);
+    expect_access("62, not seen", a_read(), found(output, 0, 0));
+    holds_under(8, PAGE, READ);
+    expect_access("62, seen", a_write(), met);
+    put(&want, THIRD, TABLE);
+    expect_store("62 goes", THIRD, TABLE, VMSA_ACCEPTED);
+    expect_access("62, held", a_write(), held);
+    expect_access("62, held, read", a_read(), found(output, 0, 0));
+    holds_nothing();
+    expect_invalidate("62, dropped");
+    put(&want, LEAF, DIRTY);
+    holds(PAGE, DIRTY);
+    expect_access("62, gone", a_write(), found(output, DIRTIED, 4));
+}
+
+/* A held sum is bits 3 to 0 of its byte, and counts with HPD too. */
+static void test_tables_odd(void)
+{
+    struct vmsa_answer held = fault(15, 3, 0);
+    unsigned tables;
+
+    held.cacheable = 1;
+    started();
+    for (tables = 0; tables < 512; tables++) {
+        lent.session.regime.hpd0 = tables >= 256;
+        lent.session.entries[PAGE % VMSA_ENTRIES].tables = (uint8_t)tables;
+        want.session = lent.session;
+        expect_access("any sum", a_read(),
+                      tables & 4 ? held : found(FRAME + 0xABC, 0, 0));
+        if (tables & 8)
+            expect_access("any sum, write", a_write(), held);
+    }
+}
+
 /* Bytes that no caller should pass have a meaning too. */
 static void test_odd_values(void)
 {
@@ -896,7 +1134,7 @@ static void test_spare_given(void)
     expect_access("spare, hit", access, found(FRAME + 0xABC, 0, 0));
 }
 
-/* A started session with something in every spare byte. */
+/* A started session with something in every spare byte, and spare bit. */
 static void started_spare(void)
 {
     size_t i;
@@ -904,9 +1142,11 @@ static void started_spare(void)
     started();
     memset(lent.session.regime.spare, 0xAA, sizeof lent.session.regime.spare);
     memset(lent.session.spare, 0xAA, sizeof lent.session.spare);
-    for (i = 0; i < VMSA_ENTRIES; i++)
+    for (i = 0; i < VMSA_ENTRIES; i++) {
         memset(lent.session.entries[i].spare, 0xAA,
                sizeof lent.session.entries[i].spare);
+        lent.session.entries[i].tables = 0xA0;
+    }
     want.session = lent.session;
 }
 
@@ -1058,6 +1298,7 @@ int main(void)
     check("library", "version", vmsa_version() == VMSA_VERSION);
     test_worked();
     test_worked_leaf();
+    test_worked_tables();
     test_worked_limit();
     test_refused_pool();
     test_refused_sizes();
@@ -1071,6 +1312,10 @@ int main(void)
     test_above_limits();
     test_script();
     test_entries();
+    test_tables();
+    test_table_as_leaf();
+    test_tables_held();
+    test_tables_odd();
     test_odd_values();
     test_odd_updates();
     test_spare_given();

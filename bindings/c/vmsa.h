@@ -15,10 +15,10 @@
  *
  * The library is not told of, and leaves alone: top-byte-ignore, 52-bit
  * addresses, PAN and E0PD, the Contiguous bit, permission indirection,
- * protected table walks, Access flags of tables, table attributes, ASIDs,
- * big-endian tables, granules other than 4 KiB, a second stage, Realm and
- * Secure state, alignment checking of Normal memory. docs/RULES.md, section
- * 14, says for each what happens here and what hardware would do.
+ * protected table walks, Access flags of tables, ASIDs, big-endian tables,
+ * granules other than 4 KiB, a second stage, Realm and Secure state, alignment
+ * checking of Normal memory. docs/RULES.md, section 14, says for each what
+ * happens here and what hardware would do.
  *
  * Out of contract
  *
@@ -70,7 +70,7 @@ extern "C" {
 #endif
 
 /* The version of this interface; vmsa_version() gives the library's. */
-#define VMSA_VERSION 6u
+#define VMSA_VERSION 7u
 
 /* The most bytes of a lent memory, and of a pool. */
 #define VMSA_MEMORY_LIMIT 16777216u
@@ -100,15 +100,18 @@ struct vmsa_regime {
     uint8_t hd;          /* the walk marks pages dirty; needs ha, or else the
                             regime is refused with 13 */
     uint8_t wxn;         /* writable pages are execute-never */
-    uint8_t spare[8];
+    uint8_t hpd0;        /* HPD0: what tables of range 0 take away from all
+                            below them (see vmsa_walk) does not count */
+    uint8_t hpd1;        /* HPD1: the same for range 1 */
+    uint8_t spare[6];
 };
 
 /*
- * A regime with no pool, both ranges disabled with T 16, 48 bits of output, no
- * updates and Device attributes; a call takes it once it has a pool.
+ * A regime with no pool, both ranges disabled with T 16 and HPD off, 48 bits of
+ * output, no updates and Device attributes; a call takes it once it has a pool.
  */
 #define VMSA_REGIME_INIT \
-    { 0, 0, 0, 0, 0, 0, 16, 16, 1, 1, 5, 0, 0, 0, { 0, 0, 0, 0, 0, 0, 0, 0 } }
+    { 0, 0, 0, 0, 0, 0, 16, 16, 1, 1, 5, 0, 0, 0, 0, 0, { 0, 0, 0, 0, 0, 0 } }
 
 /*
  * The kinds of an access. A kind above 5 is taken as VMSA_UPDATE, so that no
@@ -202,13 +205,18 @@ struct vmsa_answer {
     uint8_t spare[4];
 };
 
-/* A TLB entry of a session: the leaf of a page, where held is not 0. */
+/*
+ * A TLB entry of a session: where held is not 0, the leaf of a page and what
+ * the tables on the way to it take away.
+ */
 struct vmsa_entry {
     uint64_t page;  /* bits 63 to 12 of the guest's address */
     uint64_t value; /* the leaf descriptor */
     uint8_t left;   /* levels below it: 3 less its level */
     uint8_t held;
-    uint8_t spare[6];
+    uint8_t tables; /* bits 3 to 0: bits 62 to 59 of those tables, added up;
+                       bits 7 to 4 have no say */
+    uint8_t spare[5];
 };
 
 /*
@@ -230,6 +238,12 @@ uint32_t vmsa_version(void);
  * leaf's Access flag is set; with hd too, a write or update of a
  * writable-clean page (DBM and AP[2] both 1) also clears AP[2]. Otherwise,
  * and for any probe, no byte of the memory changes.
+ *
+ * A table descriptor takes permissions away from all that lies below it: with
+ * bit 62 (APTable[1]) nothing may be written, and so nothing is marked dirty;
+ * with bit 61 (APTable[0]) AP[1] counts as 0, with bit 60 (UXNTable) UXN as 1,
+ * with bit 59 (PXNTable) PXN as 1. The bits of all tables on the way add up.
+ * None of them counts where hpd0 or hpd1, that of the address's range, is set.
  */
 void vmsa_walk(uint8_t *memory, size_t length,
                const struct vmsa_regime *regime,
@@ -351,7 +365,9 @@ VMSA_NEXT(regime, disabled1, output, 52);
 VMSA_NEXT(regime, output, ha, 53);
 VMSA_NEXT(regime, ha, hd, 54);
 VMSA_NEXT(regime, hd, wxn, 55);
-VMSA_NEXT(regime, wxn, spare, 56);
+VMSA_NEXT(regime, wxn, hpd0, 56);
+VMSA_NEXT(regime, hpd0, hpd1, 57);
+VMSA_NEXT(regime, hpd1, spare, 58);
 VMSA_LAST(regime, spare, 64);
 
 VMSA_NEXT(access, address, size, 8);
@@ -377,7 +393,8 @@ VMSA_LAST(answer, spare, 24);
 VMSA_NEXT(entry, page, value, 8);
 VMSA_NEXT(entry, value, left, 16);
 VMSA_NEXT(entry, left, held, 17);
-VMSA_NEXT(entry, held, spare, 18);
+VMSA_NEXT(entry, held, tables, 18);
+VMSA_NEXT(entry, tables, spare, 19);
 VMSA_LAST(entry, spare, 24);
 
 VMSA_NEXT(session, regime, entries, 64);

@@ -3,15 +3,16 @@
 //! The functions themselves are declared in `main.rs`, so that this module
 //! can be built and tested without the library.
 //!
-//! No struct has padding. Its spare bytes have no say in what the library is
-//! given, and are 0 in what it writes. So there is noise in all spare bytes
-//! that it is given, and wherever it only writes.
+//! No struct has padding. Its spare bytes, and bits 7..4 of an entry's
+//! `tables`, have no say in what the library is given, and are 0 in what it
+//! writes. So there is noise in all of them that it is given, and wherever it
+//! only writes.
 
 mod session;
 
 use crate::random::Random;
-use crate::reference::{Access, Answer, Kind, Regime};
-pub use session::{CEntry, CSession, LibrarySession, Reply, SessionFunctions, Subject};
+use crate::reference::{Access, Answer, Kind, Pool, Range, Regime};
+pub use session::{CEntry, CSession, LibrarySession, Reply, SessionFunctions, Subject, SUM_BITS};
 use std::mem::{self, size_of};
 use std::{array, slice};
 
@@ -33,7 +34,9 @@ pub struct CRegime {
     pub ha: u8,
     pub hd: u8,
     pub wxn: u8,
-    pub spare: [u8; 8],
+    pub hpd0: u8,
+    pub hpd1: u8,
+    pub spare: [u8; 6],
 }
 
 #[repr(C)]
@@ -63,6 +66,34 @@ pub struct CAnswer {
     pub cacheable: u8,
     pub reads: u8,
     pub spare: [u8; 4],
+}
+
+impl CRegime {
+    /// The regime that these numbers say.
+    pub fn read(&self) -> Regime {
+        let range = |root, t, disabled, hpd| Range {
+            root,
+            t,
+            disabled: disabled != 0,
+            hpd: hpd != 0,
+        };
+        Regime {
+            pool: Pool {
+                start: self.start,
+                length: self.length,
+                address: self.address,
+            },
+            ranges: [
+                range(self.root0, self.tsz0, self.disabled0, self.hpd0),
+                range(self.root1, self.tsz1, self.disabled1, self.hpd1),
+            ],
+            output_code: self.output,
+            ha: self.ha != 0,
+            hd: self.hd != 0,
+            wxn: self.wxn != 0,
+            attributes: self.attributes.to_le_bytes(),
+        }
+    }
 }
 
 const _: () = {
@@ -169,6 +200,8 @@ impl Spelling {
             ha: self.flag(regime.ha),
             hd: self.flag(regime.hd),
             wxn: self.flag(regime.wxn),
+            hpd0: self.flag(lower.hpd),
+            hpd1: self.flag(upper.hpd),
             spare: self.spare(1),
         }
     }

@@ -8,6 +8,7 @@ mod refusals;
 mod rights;
 pub mod scene;
 mod shapes;
+mod tables;
 
 use crate::boundary::Spelling;
 use crate::promises::Expect;
@@ -58,6 +59,7 @@ pub fn run_all(seed: u64, runner: &mut dyn Runner) {
         scene: Scene::new(),
     };
     rights::run(&mut maker);
+    tables::run(&mut maker);
     shapes::run(&mut maker);
     edges::run(&mut maker);
     noise::run(&mut maker);

@@ -3,9 +3,11 @@
 
 use compare::boundary::{plain_answer, CAnswer, Library};
 use compare::cases::{Case, Runner};
-use compare::promises;
-use compare::reference::{self, offset_in_memory, read_descriptor, Walk, MEMORY_LIMIT};
+use compare::reference::{
+    self, offset_in_memory, read_descriptor, write_descriptor, Walk, MEMORY_LIMIT,
+};
 use compare::tally::Tally;
+use compare::{bare, promises};
 
 /// Bytes kept on both sides of the lent memory; nobody may touch them.
 const MARGIN: usize = 64;
@@ -32,6 +34,38 @@ impl Comparison {
             expected: Vec::with_capacity(MEMORY_LIMIT + 1),
             arena: vec![MARGIN_BYTE; MEMORY_LIMIT + 1 + 3 * MARGIN],
         }
+    }
+
+    /// Walks once more without the tables' bits, over the memory as it was
+    /// before; what is wrong with that.
+    fn wrong_bare(
+        &mut self,
+        case: &Case,
+        start: usize,
+        before: &[u8],
+        walk: &Walk,
+        answer: &CAnswer,
+    ) -> Option<String> {
+        let lent = &mut self.arena[start..start + before.len()];
+        if let Some((leaf, at)) = walk.leaf {
+            write_descriptor(lent, at, leaf.descriptor);
+        }
+        let (regime, access) = (case.regime, case.access);
+        let again = |lent: &mut [u8]| self.library.walk(lent, regime, access, case.spelling);
+        let other_bytes = || Some("without the tables' bits other bytes change".to_string());
+        match bare::check(regime, access, walk, answer, lent, again) {
+            Err(words) => Some(words),
+            Ok(true) if lent != before => other_bytes(),
+            Ok(true) if !self.margins_stand(start, before.len()) => other_bytes(),
+            Ok(_) => None,
+        }
+    }
+
+    /// Whether nobody has written beside the memory.
+    fn margins_stand(&self, start: usize, length: usize) -> bool {
+        let before = &self.arena[start - MARGIN..start];
+        let behind = &self.arena[start + length..][..MARGIN];
+        before.iter().chain(behind).all(|&b| b == MARGIN_BYTE)
     }
 
     /// Everything there is to know about a case, and the end of the run.
@@ -111,20 +145,16 @@ impl Runner for Comparison {
         if after != &self.expected[..] {
             why.push("the memories differ".to_string());
         }
-        let mut margins = self.arena[start - MARGIN..start]
-            .iter()
-            .chain(&self.arena[end..end + MARGIN]);
-        if margins.any(|&byte| byte != MARGIN_BYTE) {
+        if !self.margins_stand(start, memory.len()) {
             why.push("bytes beside the memory were written".to_string());
         }
-        let leaf_offset = walk.leaf.map(|(_, offset)| offset);
         if let Err(broken) = promises::check(
             case.regime,
             case.access,
             &answer,
             memory,
             after,
-            leaf_offset,
+            &walk,
             case.expect,
         ) {
             why.push(format!("promise broken: {broken}"));
@@ -132,8 +162,12 @@ impl Runner for Comparison {
         if !why.is_empty() {
             self.fail(case, memory, after, &walk, &answer, &why);
         }
+        if let Some(words) = self.wrong_bare(case, start, memory, &walk, &answer) {
+            let after = &self.arena[start..end];
+            self.fail(case, memory, after, &walk, &answer, &[words]);
+        }
 
         self.tally.note(case, memory, &walk, &answer);
-        memory.copy_from_slice(&self.arena[start..end]);
+        memory.copy_from_slice(&self.expected);
     }
 }

@@ -1,9 +1,11 @@
 //! Everything the comparison needs but the library itself, so that the tests
 //! run without it.
 
+pub mod bare;
 pub mod boundary;
 pub mod cases;
 pub mod counts;
+pub mod decisions;
 pub mod limits;
 pub mod promises;
 pub mod random;

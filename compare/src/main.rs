@@ -1,7 +1,7 @@
 //! Compares the library with a second program.
 //!
 //! `compare [seed] [--trace]`: its walk over many made cases, then its session
-//! over many made scripts. The seed is decimal or 0x hexadecimal. With
+//! over many made scripts, and from any bytes. The seed is decimal or 0x hexadecimal. With
 //! `--trace` each case and each call is told on standard error before the
 //! library is called, so that a crash can be placed.
 //!

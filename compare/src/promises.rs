@@ -1,9 +1,12 @@
 //! What RULES 5 to 9 say of every answer, checked on the library's own answer
-//! and on the memory before and after. Of the reference only the leaf's place
-//! is taken.
+//! and on the memory before and after. Of the reference only the list of
+//! descriptors and the leaf's place are taken.
 
+use crate::bare;
 use crate::boundary::{CAnswer, FAULT, REFUSED, SUCCESS};
-use crate::reference::{Access, Kind, Regime};
+use crate::reference::{
+    bit, Access, Kind, Regime, Walk, AP_TABLE_0, AP_TABLE_1, PXN_TABLE, UXN_TABLE,
+};
 use crate::refusals::WALK;
 
 const AF_BIT: u64 = 1 << 10;
@@ -47,6 +50,18 @@ fn change(before: &[u8], after: &[u8]) -> Change {
     }
 }
 
+/// Whether a bit of the tables' sum takes an access away, whatever the leaf is
+/// (RULES 6.11 and 7).
+fn taken_away(sum: u64, access: &Access) -> bool {
+    let user = bit(sum, AP_TABLE_0) && access.el0;
+    match (access.kind, access.el0) {
+        (Kind::Fetch, true) => bit(sum, UXN_TABLE),
+        (Kind::Fetch, false) => bit(sum, PXN_TABLE),
+        (Kind::Read | Kind::ProbeRead, _) => user,
+        (Kind::Write | Kind::Update | Kind::ProbeWrite, _) => user || bit(sum, AP_TABLE_1),
+    }
+}
+
 /// The first broken promise in words, if there is one.
 pub fn check(
     regime: &Regime,
@@ -54,7 +69,7 @@ pub fn check(
     answer: &CAnswer,
     before: &[u8],
     after: &[u8],
-    leaf_offset: Option<usize>,
+    walk: &Walk,
     expect: Expect,
 ) -> Result<(), String> {
     let demand = |holds: bool, words: &str| {
@@ -176,9 +191,15 @@ pub fn check(
             regime.attributes.contains(&answer.attribute),
             "an attribute byte the regime does not have",
         )?;
-        let Some(offset) = leaf_offset else {
+        let Some((_, offset)) = walk.leaf else {
             return Err("success where the reference found no leaf".to_string());
         };
+        let sum = bare::sum(regime, access, before, walk);
+        demand(!taken_away(sum, access), "success that a table takes away")?;
+        demand(
+            answer.dirtied == 0 || !bit(sum, AP_TABLE_1),
+            "dirtied under a table's bit 62",
+        )?;
         let leaf = word(after, offset);
         if matches!(access.kind, Kind::Write | Kind::Update) {
             demand(

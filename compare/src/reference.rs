@@ -1,9 +1,9 @@
 //! The second walker: stage 1, EL1&0, 4 KiB granule.
 //!
 //! It was written from document 01 of the customer; what the customer's
-//! requests change (so far) from these and from docs/RULES.md. It
-//! shares nothing with the library or its bindings. The places cited are those
-//! of docs/RULES.md, which says the same in numbered sections.
+//! requests change (so far) from these and from docs/RULES.md.
+//! It shares nothing with the library or its bindings. The places cited are
+//! those of docs/RULES.md, which says the same in numbered sections.
 //!
 //! One loop goes down the levels and keeps the list of descriptor addresses;
 //! sums that could pass 2^64 are made in 128 bits.
@@ -30,6 +30,17 @@ pub const DBM: u32 = 51;
 pub const PXN: u32 = 53;
 pub const UXN: u32 = 54;
 
+/// Places of the bits with which a table takes permissions away from all that
+/// lies below it (RULES 6.11).
+pub const PXN_TABLE: u32 = 59;
+pub const UXN_TABLE: u32 = 60;
+pub const AP_TABLE_0: u32 = 61;
+pub const AP_TABLE_1: u32 = 62;
+/// All of them, the lowest first.
+pub const TAKING: [u32; 4] = [PXN_TABLE, UXN_TABLE, AP_TABLE_0, AP_TABLE_1];
+/// The same as a mask.
+pub const TAKING_FIELD: u64 = 0xF << PXN_TABLE;
+
 /// The part of the memory that holds descriptors.
 #[derive(Clone, Copy, Debug, PartialEq, Eq)]
 pub struct Pool {
@@ -44,6 +55,8 @@ pub struct Range {
     pub root: u64,
     pub t: u8,
     pub disabled: bool,
+    /// Bits 62..59 of its tables do not count.
+    pub hpd: bool,
 }
 
 #[derive(Clone, Copy, Debug, PartialEq, Eq)]
@@ -159,11 +172,14 @@ pub enum Answer {
     Refused(u8),
 }
 
-/// A block or page descriptor and the level where it was found.
+/// A block or page descriptor, the level where it was found, and what the
+/// tables on the way to it take away.
 #[derive(Clone, Copy, Debug, PartialEq, Eq)]
 pub struct Leaf {
     pub descriptor: u64,
     pub level: u8,
+    /// The tables' sum: of bits 62..59 those that count, in their places.
+    pub taken: u64,
 }
 
 /// An answer with the way that led to it.
@@ -263,6 +279,26 @@ pub fn write_descriptor(memory: &mut [u8], offset: usize, descriptor: u64) {
 
 // ----------------------------------------------------------------- the walk
 
+/// RULES 6.1: the range of an address. There is none under a regime that only
+/// a session of any bytes has (RULES 10.5).
+fn range_of(regime: &Regime, address: u64) -> Result<&Range, Stop> {
+    let stop = |kind| Err(Stop { kind, level: 0 });
+    if refusals::finds_no_table(regime) {
+        return stop(FaultKind::Translation);
+    }
+    let upper = bit(address, 55);
+    let range = &regime.ranges[usize::from(upper)];
+    let top = address >> (64 - u32::from(range.t));
+    let wanted = if upper { (1 << range.t) - 1 } else { 0 };
+    if range.disabled || top != wanted {
+        return stop(FaultKind::Translation);
+    }
+    if range.root >= output_limit(regime.output_code) {
+        return stop(FaultKind::AddressSize);
+    }
+    Ok(range)
+}
+
 /// RULES 6.1 to 6.5: from an address to its leaf. Each descriptor address is
 /// put on the list before the pool is asked for it.
 pub fn find_leaf(
@@ -272,23 +308,13 @@ pub fn find_leaf(
     visited: &mut Vec<u64>,
 ) -> Result<(Leaf, usize), Stop> {
     let stop = |kind, level| Err(Stop { kind, level });
+    let range = range_of(regime, address)?;
     let limit = output_limit(regime.output_code);
-
-    // 6.1.
-    let upper = bit(address, 55);
-    let range = &regime.ranges[usize::from(upper)];
-    let top = address >> (64 - u32::from(range.t));
-    let wanted = if upper { (1 << range.t) - 1 } else { 0 };
-    if range.disabled || top != wanted {
-        return stop(FaultKind::Translation, 0);
-    }
-    if range.root >= limit {
-        return stop(FaultKind::AddressSize, 0);
-    }
 
     // 6.2.
     let mut level = first_level(range.t);
     let mut table = range.root;
+    let mut taken = 0;
     loop {
         let picked = address >> lowest_index_bit(level);
         let index = picked & ((1 << index_bits(range.t, level)) - 1);
@@ -308,10 +334,18 @@ pub fn find_leaf(
                 if table >= limit {
                     return stop(FaultKind::AddressSize, level);
                 }
+                // 6.11.
+                if !range.hpd {
+                    taken |= descriptor & TAKING_FIELD;
+                }
                 level += 1;
             }
             (1, 1 | 2) | (3, 3) => {
-                let leaf = Leaf { descriptor, level };
+                let leaf = Leaf {
+                    descriptor,
+                    level,
+                    taken,
+                };
                 if leaf_address(&leaf) >= limit {
                     return stop(FaultKind::AddressSize, level);
                 }
@@ -322,42 +356,51 @@ pub fn find_leaf(
     }
 }
 
-/// AP[2] set, but a write may clear it (RULES 7.1).
-pub fn writable_clean(regime: &Regime, descriptor: u64) -> bool {
-    bit(descriptor, AP2) && bit(descriptor, DBM) && regime.ha && regime.hd
+/// W: the leaf may be written (RULES 7.1).
+fn writable(regime: &Regime, leaf: &Leaf) -> bool {
+    let own = leaf.descriptor;
+    let clean = bit(own, DBM) && regime.ha && regime.hd;
+    (!bit(own, AP2) || clean) && !bit(leaf.taken, AP_TABLE_1)
 }
 
-/// Direct permissions (RULES 7).
-pub fn permitted(regime: &Regime, access: &Access, descriptor: u64) -> bool {
-    let user = bit(descriptor, AP1);
-    let writable = !bit(descriptor, AP2) || writable_clean(regime, descriptor);
+/// AP[2] set, but a write may clear it (RULES 7.1).
+pub fn writable_clean(regime: &Regime, leaf: &Leaf) -> bool {
+    bit(leaf.descriptor, AP2) && writable(regime, leaf)
+}
+
+/// Direct permissions (RULES 7): those of the leaf, less what the tables take
+/// away.
+fn permitted(regime: &Regime, access: &Access, leaf: &Leaf) -> bool {
+    let (own, taken) = (leaf.descriptor, leaf.taken);
+    let user = bit(own, AP1) && !bit(taken, AP_TABLE_0);
+    let writable = writable(regime, leaf);
     match (access.kind, access.el0) {
         (Kind::Read | Kind::ProbeRead, true) => user,
         (Kind::Read | Kind::ProbeRead, false) => true,
         (Kind::Write | Kind::Update | Kind::ProbeWrite, true) => user && writable,
         (Kind::Write | Kind::Update | Kind::ProbeWrite, false) => writable,
         (Kind::Fetch, true) => {
-            let never = bit(descriptor, UXN);
+            let never = bit(own, UXN) || bit(taken, UXN_TABLE);
             !(never || (regime.wxn && user && writable))
         }
         (Kind::Fetch, false) => {
-            let never = bit(descriptor, PXN);
+            let never = bit(own, PXN) || bit(taken, PXN_TABLE);
             !(never || (user && writable) || (regime.wxn && writable))
         }
     }
 }
 
 /// RULES 6.6 to 6.8: may this access use this leaf?
-fn judge(regime: &Regime, access: &Access, descriptor: u64) -> Result<(), FaultKind> {
-    let device = is_device(leaf_attribute(regime, descriptor));
+fn judge(regime: &Regime, access: &Access, leaf: &Leaf) -> Result<(), FaultKind> {
+    let device = is_device(leaf_attribute(regime, leaf.descriptor));
     let misaligned = access.kind.moves_data() && !is_multiple(access.address, access.size);
-    if !bit(descriptor, AF) && !regime.ha {
+    if !bit(leaf.descriptor, AF) && !regime.ha {
         return Err(FaultKind::AccessFlag);
     }
     if misaligned && device {
         return Err(FaultKind::Alignment);
     }
-    if !permitted(regime, access, descriptor) || (access.kind == Kind::Fetch && device) {
+    if !permitted(regime, access, leaf) || (access.kind == Kind::Fetch && device) {
         return Err(FaultKind::Permission);
     }
     Ok(())
@@ -367,7 +410,7 @@ fn judge(regime: &Regime, access: &Access, descriptor: u64) -> Result<(), FaultK
 /// (RULES 8 and 9). A mark is told only where a bit changed.
 pub fn settle(regime: &Regime, access: &Access, leaf: &Leaf, reads: u8) -> (Answer, u64) {
     let before = leaf.descriptor;
-    if let Err(kind) = judge(regime, access, before) {
+    if let Err(kind) = judge(regime, access, leaf) {
         let level = leaf.level;
         let fault = Fault {
             stop: Stop { kind, level },
@@ -381,7 +424,7 @@ pub fn settle(regime: &Regime, access: &Access, leaf: &Leaf, reads: u8) -> (Answ
     if regime.ha && !access.kind.is_probe() {
         after |= 1 << AF;
     }
-    if access.kind.changes_data() && writable_clean(regime, before) {
+    if access.kind.changes_data() && writable_clean(regime, leaf) {
         after &= !(1 << AP2);
     }
     let offset = access.address & ((1 << lowest_index_bit(leaf.level)) - 1);
@@ -423,8 +466,8 @@ fn refused(number: u8) -> Walk {
     }
 }
 
-/// The steps and marks of a walk that is not refused. Rows 1, 3, 4, 6 and 7
-/// must not apply; under the others the regime is used as it is (RULES 10.5).
+/// The steps and marks of a walk that is not refused. Rows 1, 6 and 7 must not
+/// apply; the others may, in a session of any bytes (RULES 10.5).
 pub fn walk_on(memory: &mut [u8], regime: &Regime, access: &Access) -> Walk {
     let (walk, after) = steps(memory, regime, access);
     if let Some((_, offset)) = walk.leaf {

@@ -142,6 +142,12 @@ pub fn of_store(memory_length: usize, regime: Option<&Regime>, address: u64) -> 
     asked.first_of(STORE)
 }
 
+/// Whether a session's regime is one of those that no walk can begin with
+/// (RULES 10.5).
+pub fn finds_no_table(regime: &Regime) -> bool {
+    row_3(regime) || row_4(regime)
+}
+
 // ------------------------------------------------------- the rows (RULES 5.1)
 
 /// The memory and the pool's place in it.

@@ -2,6 +2,7 @@
 
 mod calls;
 mod features;
+mod foreign;
 mod opening;
 mod play;
 mod tally;
@@ -29,7 +30,8 @@ pub struct Step {
 }
 
 /// Plays all scripts to a session and to the reference; each fresh session is
-/// made over noise. Ends at the first difference, which it tells.
+/// made over noise. Then come sessions of any bytes. Ends at the first
+/// difference, which it tells.
 pub fn run_all<S: Subject>(
     seed: u64,
     trace: bool,
@@ -46,5 +48,6 @@ pub fn run_all<S: Subject>(
         let played = play.run(&mut script);
         played.map_err(|why| play.tell(seed, script.family, &why))?;
     }
-    Ok(())
+    foreign::run_all(&mut random, trace, fresh, tally)
+        .map_err(|why| format!("with seed {seed}: {why}"))
 }

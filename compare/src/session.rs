@@ -28,7 +28,8 @@ pub enum Call {
     DropAll,
 }
 
-/// What a place holds: a page, and its leaf as the walk left it.
+/// What a place holds: a page, and its leaf as the walk left it, with what the
+/// tables took away as the walk met them.
 #[derive(Clone, Copy, Debug, PartialEq, Eq)]
 pub struct Held {
     pub page: u64,
@@ -98,7 +99,7 @@ impl Session {
         if let (true, Some((found, offset))) = (rememberable, walk.leaf) {
             let leaf = Leaf {
                 descriptor: read_descriptor(memory, offset),
-                level: found.level,
+                ..found
             };
             *place = Some(Held { page, leaf });
         }

@@ -4,11 +4,12 @@
 use crate::boundary::{CAnswer, FAULT, REFUSED, SUCCESS};
 use crate::cases::Case;
 use crate::counts::{report_families, Countable, Counts};
+use crate::decisions::{decided, succeeds, Decision};
 use crate::limits::{self, Limit, Octave, POOL_GRANULES};
 use crate::reference::{
     bit, first_level, is_device, leaf_address, offset_in_memory, output_limit, read_descriptor,
-    Access, Answer, FaultKind, Kind, Leaf, Pool, Regime, Walk, ADDRESS_FIELD, GRANULE,
-    MEMORY_LIMIT, POOL_LIMIT,
+    writable_clean, Access, Answer, FaultKind, Kind, Leaf, Pool, Regime, Walk, ADDRESS_FIELD,
+    AP_TABLE_1, GRANULE, MEMORY_LIMIT, POOL_LIMIT, TAKING, TAKING_FIELD,
 };
 use crate::refusals::{all_of_walk, pairs, WALK};
 use std::collections::{BTreeMap, BTreeSet};
@@ -55,6 +56,46 @@ pub enum Place {
     OddTruth,
     /// A dirty mark where update is spelled with a number above 5.
     OddKind,
+    /// HPD that decides, spelled with a byte other than 1.
+    OddHpd,
+    /// A leaf below tables with bit 63 alone of bits 63..59.
+    Bit63,
+    /// Bits 62..59 of a leaf, which would decide if they were a table's.
+    OwnBits,
+    /// The same where the leaf stands in a table that another level reads too.
+    OwnBitsInTable,
+    /// A leaf that is a table on the way too, and a bit that decides.
+    LeafAndTable,
+}
+
+impl Place {
+    const ALL: [Place; 16] = [
+        Place::FirstOfPool,
+        Place::LastOfPool,
+        Place::BehindPool,
+        Place::BeforePool,
+        Place::ReadTwice,
+        Place::AllOnes,
+        Place::PoolAtZero,
+        Place::PoolAtTop,
+        Place::ShortestMemory,
+        Place::OddTruth,
+        Place::OddKind,
+        Place::OddHpd,
+        Place::Bit63,
+        Place::OwnBits,
+        Place::OwnBitsInTable,
+        Place::LeafAndTable,
+    ];
+}
+
+/// Which range has HPD on.
+#[derive(Clone, Copy, Debug, PartialEq, Eq, PartialOrd, Ord)]
+pub enum Hpd {
+    /// That of the address: bits do not count, and would decide.
+    Own,
+    /// The other one alone: a bit decides.
+    Other,
 }
 
 /// One thing to meet.
@@ -96,6 +137,14 @@ pub enum Feature {
     /// The same by its place in the memory.
     MarkedInMemory(Octave),
     Limit(Limit),
+    Decided(Decision),
+    /// First level, and level of the one table that has a bit which decides.
+    OneTable(u8, u8, u32),
+    /// Tables that have a bit which no other on the way has.
+    AddUp(usize),
+    Hpd(usize, Hpd),
+    /// A leaf that would be writable-clean but for bit 62 of a table.
+    CleanTaken(Kind, bool),
     Place(Place),
 }
 
@@ -127,6 +176,11 @@ impl Countable for Feature {
             F::Marked(_) => "leaves marked, by granule of the pool",
             F::MarkedInMemory(_) => "leaves marked, by granule of the memory",
             F::Limit(_) => "limits of memory and pool",
+            F::Decided(_) => "ends that a bit of a table decides",
+            F::OneTable(..) => "the same where one table has it, by first level > level",
+            F::AddUp(_) => "sums by how many tables they need",
+            F::Hpd(..) => "HPD by range",
+            F::CleanTaken(..) => "writes to clean leaves under bit 62",
             F::Place(_) => "places",
         }
     }
@@ -196,6 +250,11 @@ impl fmt::Display for Feature {
                 write!(out, "{octave}")
             }
             F::Limit(limit) => write!(out, "{limit:?}"),
+            F::Decided(decision) => write!(out, "{decision}"),
+            F::OneTable(first, level, bit) => write!(out, "{bit} {first}>{level}"),
+            F::AddUp(count) => write!(out, "{count}"),
+            F::Hpd(range, which) => write!(out, "{range} {which:?}"),
+            F::CleanTaken(kind, el0) => write!(out, "{} {kind:?}", level_name(el0)),
             F::Place(place) => write!(out, "{place:?}"),
         }
     }
@@ -302,23 +361,27 @@ fn possible() -> BTreeSet<Feature> {
     all.extend((0..4).map(F::Shareability));
     all.extend([false, true].map(F::NonGlobal));
     lengths(&mut all);
-    all.extend(
-        [
-            Place::FirstOfPool,
-            Place::LastOfPool,
-            Place::BehindPool,
-            Place::BeforePool,
-            Place::ReadTwice,
-            Place::AllOnes,
-            Place::PoolAtZero,
-            Place::PoolAtTop,
-            Place::ShortestMemory,
-            Place::OddTruth,
-            Place::OddKind,
-        ]
-        .map(F::Place),
-    );
+    tables(&mut all);
+    all.extend(Place::ALL.map(F::Place));
     all
+}
+
+/// What has to do with the bits of the tables on the way.
+fn tables(all: &mut BTreeSet<Feature>) {
+    all.extend(Decision::all().map(F::Decided));
+    for first in 0..=2 {
+        for level in first..=2 {
+            all.extend(TAKING.map(|bit| F::OneTable(first, level, bit)));
+        }
+    }
+    all.extend([2, 3].map(F::AddUp));
+    for range in 0..2 {
+        all.extend([Hpd::Own, Hpd::Other].map(|which| F::Hpd(range, which)));
+    }
+    for el0 in [false, true] {
+        let writes = [Kind::Write, Kind::Update, Kind::ProbeWrite];
+        all.extend(writes.map(|kind| F::CleanTaken(kind, el0)));
+    }
 }
 
 /// What has to do with the lengths of memory and pool.
@@ -369,8 +432,9 @@ impl Tally {
             _ => End::Success,
         };
         self.meet(F::Rememberable(end, answer.cacheable != 0));
-        if walk.leaf.is_some() {
+        if let Some((leaf, _)) = walk.leaf {
             self.meet(F::Asked(end, access.kind, access.el0));
+            self.note_tables(case, before, walk, &leaf);
         }
         let range = usize::from(bit(access.address, 55));
         let t = regime.ranges[range].t;
@@ -479,6 +543,77 @@ impl Tally {
         }
     }
 
+    /// What the tables on the way to a leaf take away, and what they do not.
+    fn note_tables(&mut self, case: &Case, before: &[u8], walk: &Walk, leaf: &Leaf) {
+        let (regime, access) = (case.regime, case.access);
+        let range = usize::from(bit(access.address, 55));
+        let tables = tables_of(before, &regime.pool, walk);
+        let all = tables.iter().fold(0, |sum, table| sum | table);
+        let decides = |taken| {
+            let without = succeeds(regime, access, leaf, taken);
+            without != succeeds(regime, access, leaf, leaf.taken)
+        };
+        if regime.ranges[range].hpd {
+            if decides(all & TAKING_FIELD) {
+                self.meet(F::Hpd(range, Hpd::Own));
+                if case.spelling.truth != 1 {
+                    self.meet(F::Place(Place::OddHpd));
+                }
+            }
+        } else {
+            self.note_sum(regime, access, walk, leaf, &tables);
+        }
+        if bit(all, 63) && all & TAKING_FIELD == 0 {
+            self.meet(F::Place(Place::Bit63));
+        }
+        if decides(leaf.taken | leaf.descriptor & TAKING_FIELD) {
+            self.meet(F::Place(Place::OwnBits));
+            let granule = |entry: &u64| entry / GRANULE;
+            let mut granules = walk.visited.iter().rev().map(granule);
+            let own = granules.next();
+            if granules.any(|other| Some(other) == own) {
+                self.meet(F::Place(Place::OwnBitsInTable));
+            }
+        }
+    }
+
+    /// A sum that counts, and what it decides.
+    fn note_sum(
+        &mut self,
+        regime: &Regime,
+        access: &Access,
+        walk: &Walk,
+        leaf: &Leaf,
+        tables: &[u64],
+    ) {
+        let range = usize::from(bit(access.address, 55));
+        let first = first_level(regime.ranges[range].t);
+        let only_table = |place| only_table(first, tables, place);
+        for decision in decided(regime, access, leaf) {
+            self.meet(F::Decided(decision));
+            if let Some(level) = only_table(decision.bit) {
+                self.meet(F::OneTable(first, level, decision.bit));
+            }
+            if regime.ranges[1 - range].hpd {
+                self.meet(F::Hpd(range, Hpd::Other));
+            }
+            if let Some((last, others)) = walk.visited.split_last() {
+                if others.contains(last) {
+                    self.meet(F::Place(Place::LeafAndTable));
+                }
+            }
+        }
+        let levels: BTreeSet<u8> = TAKING.into_iter().filter_map(only_table).collect();
+        if levels.len() > 1 {
+            self.meet(F::AddUp(levels.len()));
+        }
+        let own = Leaf { taken: 0, ..*leaf };
+        let writes = access.kind.changes_data() || access.kind == Kind::ProbeWrite;
+        if writes && bit(leaf.taken, AP_TABLE_1) && writable_clean(regime, &own) {
+            self.meet(F::CleanTaken(access.kind, access.el0));
+        }
+    }
+
     fn note_fault(
         &mut self,
         regime: &Regime,
@@ -538,6 +673,27 @@ impl Tally {
     }
 }
 
+/// The table descriptors on the way to a leaf.
+fn tables_of(before: &[u8], pool: &Pool, walk: &Walk) -> Vec<u64> {
+    let visited = walk.visited.iter().take(walk.visited.len() - 1);
+    let offsets = visited.filter_map(|&entry| offset_in_memory(pool, entry));
+    offsets
+        .map(|offset| read_descriptor(before, offset))
+        .collect()
+}
+
+/// The level of the table that has a bit, where it is one alone; the first of
+/// them is at the first level.
+fn only_table(first: u8, tables: &[u64], place: u32) -> Option<u8> {
+    let mut having = (first..)
+        .zip(tables)
+        .filter(|(_, table)| bit(**table, place));
+    match (having.next(), having.next()) {
+        (Some((level, _)), None) => Some(level),
+        _ => None,
+    }
+}
+
 /// The address that lay beyond the output size, and what it was.
 fn address_beyond(regime: &Regime, range: usize, before: &[u8], walk: &Walk) -> (Held, u64) {
     let offset = walk
@@ -553,7 +709,11 @@ fn address_beyond(regime: &Regime, range: usize, before: &[u8], walk: &Walk) -> 
     if level < 3 && descriptor & 3 == 3 {
         (Held::Table, descriptor & ADDRESS_FIELD)
     } else {
-        let leaf = Leaf { descriptor, level };
+        let leaf = Leaf {
+            descriptor,
+            level,
+            taken: 0,
+        };
         (Held::Leaf, leaf_address(&leaf))
     }
 }

@@ -6,16 +6,17 @@ mod refusals;
 mod rule3;
 mod session;
 mod spare;
+mod tables;
 mod vectors;
 
 use crate::boundary::plain_answer;
 use crate::cases::{run_all, Case, Runner};
-use crate::promises;
 use crate::reference::{
-    read_descriptor, walk, write_descriptor, Access, Answer, Kind, Pool, Range, Regime, Success,
-    Walk,
+    self, read_descriptor, walk, write_descriptor, Access, Answer, Kind, Pool, Range, Regime,
+    Success, Walk,
 };
 use crate::tally::Tally;
+use crate::{bare, promises};
 
 const POOL: u64 = 0x4000_0000;
 const LEAF_OFFSET: usize = 0x3018;
@@ -32,6 +33,7 @@ fn start() -> (Vec<u8>, Regime) {
         root: POOL,
         t: 16,
         disabled: false,
+        hpd: false,
     };
     let regime = Regime {
         pool: Pool {
@@ -256,7 +258,8 @@ fn p12_pool_length() {
 struct Survey {
     tally: Tally,
     count: u64,
-    /// The memory before a case.
+    /// The memory before a case; then also for the walk without the tables'
+    /// bits.
     before: Vec<u8>,
 }
 
@@ -267,19 +270,24 @@ impl Runner for Survey {
         let before = &self.before;
         let walk = walk(memory, case.regime, case.access);
         let answer = plain_answer(&walk.answer);
-        // That family crosses leaf bits, so each of its walks must see them.
-        assert!(case.family != "rights" || walk.leaf.is_some());
+        // These cross leaf bits, so each of their walks must see them.
+        assert!(!["rights", "tables"].contains(&case.family) || walk.leaf.is_some());
         promises::check(
             case.regime,
             case.access,
             &answer,
             before,
             memory,
-            walk.leaf.map(|(_, offset)| offset),
+            &walk,
             case.expect,
         )
         .unwrap_or_else(|broken| panic!("case {}: {broken}: {answer:?}", self.count));
         self.tally.note(case, before, &walk, &answer);
+
+        let (regime, access) = (case.regime, case.access);
+        let again = |lent: &mut [u8]| plain_answer(&reference::walk(lent, regime, access).answer);
+        bare::check(regime, access, &walk, &answer, &mut self.before, again)
+            .unwrap_or_else(|broken| panic!("case {}: {broken}: {answer:?}", self.count));
     }
 }
 

@@ -13,7 +13,7 @@ use std::fmt;
 /// assert_eq!(format!("{root:?}"), "PhysAddr(0x40000000)");
 /// assert_eq!(
 ///     format!("{:?}", Range::new(root, 16)),
-///     "Range { root: PhysAddr(0x40000000), tsz: 16, disabled: false }",
+///     "Range { root: PhysAddr(0x40000000), tsz: 16, disabled: false, hpd: false }",
 /// );
 /// ```
 #[derive(Clone, Copy, Default, PartialEq, Eq, PartialOrd, Ord, Hash)]

@@ -99,7 +99,8 @@ pub enum FaultKind {
     Translation,
     /// The Access flag is clear, and the walk does not set it.
     AccessFlag,
-    /// The leaf does not permit the access, or a fetch from Device memory.
+    /// The leaf, or a table on the way to it, does not permit the access; or a
+    /// fetch from Device memory.
     Permission,
     /// External abort on the walk: a descriptor not wholly in the pool.
     ExternalAbort,

@@ -29,7 +29,9 @@ pub struct Regime {
     pub ha: u8,
     pub hd: u8,
     pub wxn: u8,
-    pub spare: [u8; 8],
+    pub hpd0: u8,
+    pub hpd1: u8,
+    pub spare: [u8; 6],
 }
 
 #[repr(C)]
@@ -67,7 +69,8 @@ pub struct Entry {
     pub value: u64,
     pub left: u8,
     pub held: u8,
-    pub spare: [u8; 6],
+    pub tables: u8,
+    pub spare: [u8; 5],
 }
 
 pub const ENTRIES: usize = 64;
@@ -103,7 +106,7 @@ layout!(
     Regime: 64,
     start: 0, length: 8, address: 16, root0: 24, root1: 32, attributes: 40,
     tsz0: 48, tsz1: 49, disabled0: 50, disabled1: 51, output: 52,
-    ha: 53, hd: 54, wxn: 55, spare: 56
+    ha: 53, hd: 54, wxn: 55, hpd0: 56, hpd1: 57, spare: 58
 );
 layout!(Access: 24, address: 0, size: 8, el0: 16, kind: 17, spare: 18);
 layout!(
@@ -112,7 +115,10 @@ layout!(
     shareability: 14, nonglobal: 15, accessed: 16, dirtied: 17, cacheable: 18,
     reads: 19, spare: 20
 );
-layout!(Entry: 24, page: 0, value: 8, left: 16, held: 17, spare: 18);
+layout!(
+    Entry: 24,
+    page: 0, value: 8, left: 16, held: 17, tables: 18, spare: 19
+);
 layout!(Session: 1608, regime: 0, entries: 64, set: 1600, spare: 1601);
 
 extern "C" {

@@ -72,9 +72,8 @@
 //! - Alignment checking of Normal memory (SCTLR_EL1.A)
 //! - Stage 1 switched off (SCTLR_EL1.M 0)
 //! - 128-bit descriptors (FEAT_D128), VMSAv8-32
-//! - Until they are added: table attributes (APTable, UXNTable, PXNTable, HPD0,
-//!   HPD1), ASIDs, big-endian tables (SCTLR_EL1.EE), granules of 16 KiB and
-//!   64 KiB, stage 2
+//! - Until they are added: ASIDs, big-endian tables (SCTLR_EL1.EE), granules of
+//!   16 KiB and 64 KiB, stage 2
 //!
 //! Most of these are settings that the library is not told of: it walks the
 //! tables all the same, and its answer need not be the hardware's.
@@ -168,7 +167,7 @@ pub const MEMORY_LIMIT: usize = 16_777_216;
 pub const POOL_LIMIT: usize = 1_048_576;
 
 /// The version of the C interface that this crate speaks.
-pub const VERSION: u32 = 6;
+pub const VERSION: u32 = 7;
 
 /// The version of the library that is linked in; to be [`VERSION`].
 pub fn version() -> u32 {
@@ -180,7 +179,8 @@ pub fn version() -> u32 {
 /// On success with HA on, the leaf's Access flag is set; with HD on too, a
 /// write or update of a writable-clean page (DBM and AP\[2\] both 1) also
 /// clears AP\[2\]. A probe changes nothing, and so does whatever stops the
-/// walk. [`Refusal`] has the order of the checks.
+/// walk. The tables on the way take permissions away from the leaf, unless
+/// [`Range::hpd`](Range::hpd()) is on. [`Refusal`] has the order of the checks.
 ///
 /// ```
 /// use vmsa::{walk, Access, Refusal, Regime, Stop, VirtAddr};

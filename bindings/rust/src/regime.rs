@@ -28,9 +28,10 @@ impl Pool {
     }
 }
 
-/// One of the two ranges of guest addresses: what TTBR*n*_EL1, T*n*SZ and
-/// EPD*n* say of it.
+/// One of the two ranges of guest addresses: what TTBR*n*_EL1, T*n*SZ, EPD*n*
+/// and HPD*n* say of it.
 #[derive(Clone, Copy, Debug, PartialEq, Eq, Hash)]
+#[must_use = "a setting hands the range back"]
 pub struct Range {
     /// The root table.
     pub root: PhysAddr,
@@ -38,15 +39,19 @@ pub struct Range {
     pub tsz: u8,
     /// Whether every address of the range is a Translation fault.
     pub disabled: bool,
+    /// Whether bits 62 to 59 of the range's tables do not count; see
+    /// [`hpd`](Self::hpd()).
+    pub hpd: bool,
 }
 
 impl Range {
-    /// A range that is not disabled.
+    /// A range that is not disabled, with HPD off.
     pub const fn new(root: PhysAddr, tsz: u8) -> Self {
         Self {
             root,
             tsz,
             disabled: false,
+            hpd: false,
         }
     }
 
@@ -55,7 +60,47 @@ impl Range {
         root: PhysAddr(0),
         tsz: 16,
         disabled: true,
+        hpd: false,
     };
+
+    /// Switches off what the range's tables take away from all below them
+    /// (TCR_EL1.HPD0, HPD1).
+    ///
+    /// Below a table descriptor with bit 62 (APTable\[1\]) nothing may be
+    /// written, and so nothing is marked dirty; with bit 61 (APTable\[0\])
+    /// AP\[1\] counts as 0, with bit 60 (UXNTable) UXN as 1, with bit 59
+    /// (PXNTable) PXN as 1. The bits of all tables on the way add up.
+    ///
+    /// ```
+    /// use vmsa::{walk, Access, FaultKind, PhysAddr, Pool, Range, Regime, Stop, VirtAddr};
+    ///
+    /// // A table with bit 62, and a writable-clean block of 2 MiB below it.
+    /// let mut memory = vec![0; 0x2000];
+    /// memory[..8].copy_from_slice(&0x4000_0000_4000_1003_u64.to_le_bytes());
+    /// memory[0x1000..0x1008].copy_from_slice(&0x0008_0000_8020_0781_u64.to_le_bytes());
+    ///
+    /// let root = PhysAddr(0x4000_0000);
+    /// let range = Range::new(root, 25);
+    /// let regime = Regime::new()
+    ///     .pool(Pool::new(0, 0x2000, root))
+    ///     .range0(range)
+    ///     .ha(true)
+    ///     .hd(true)
+    ///     .attributes([0xff; 8]);
+    ///
+    /// let write = Access::write(VirtAddr(0x1_2340), 8);
+    /// let stop = walk(&mut memory, &regime, &write).unwrap_err();
+    /// assert_eq!(stop.fault().unwrap().kind, FaultKind::Permission);
+    ///
+    /// let found = walk(&mut memory, &regime.range0(range.hpd(true)), &write)?;
+    /// assert_eq!(found.output, PhysAddr(0x8021_2340));
+    /// assert!(found.dirtied);
+    /// # Ok::<(), Stop>(())
+    /// ```
+    pub const fn hpd(mut self, hpd: bool) -> Self {
+        self.hpd = hpd;
+        self
+    }
 }
 
 /// How many bits an output address may have, by the codes of TCR_EL1.IPS.
@@ -169,8 +214,8 @@ pub struct Regime {
 }
 
 impl Regime {
-    /// No pool yet, both ranges disabled, 48 bits of output, no updates, and
-    /// Device memory only.
+    /// No pool yet, both ranges disabled and HPD off, 48 bits of output, no
+    /// updates, and Device memory only.
     pub const fn new() -> Self {
         Self {
             pool: Pool::new(0, 0, PhysAddr(0)),
@@ -312,7 +357,9 @@ impl From<&Regime> for ffi::Regime {
             ha: regime.ha.into(),
             hd: regime.hd.into(),
             wxn: regime.wxn.into(),
-            spare: [0; 8],
+            hpd0: regime.range0.hpd.into(),
+            hpd1: regime.range1.hpd.into(),
+            spare: [0; 6],
         }
     }
 }

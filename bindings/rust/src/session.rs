@@ -7,9 +7,11 @@ use crate::{ffi, Access, Answer, PhysAddr, Refusal, Regime};
 
 /// A session: the regime last accepted, and 64 TLB entries.
 ///
-/// A page's entry is the one of its number mod 64. A page held there is
-/// answered with 0 reads, unless the access would mark it dirty; that walks
-/// again. Between a [`store`](Session::store) and the next access, call
+/// A page's entry is the one of its number mod 64. It holds the page's leaf and
+/// what the tables on the way to it take away
+/// ([`Range::hpd`](crate::Range::hpd())), both as the walk met them. A page held
+/// there is answered with 0 reads, unless the access would mark it dirty; that
+/// walks again. Between a [`store`](Session::store) and the next access, call
 /// [`invalidate_all`](Session::invalidate_all): each access is then answered as
 /// by the plain [`walk`](crate::walk()) of that moment, its count of reads
 /// apart.

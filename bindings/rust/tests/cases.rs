@@ -1,11 +1,15 @@
-//! The twelve worked cases, P1 to P12 (`docs/RULES.md`, 12).
+//! The worked cases (`docs/RULES.md`, 12): P1 to P12, and those of the tables'
+//! bits.
 
 mod tables;
 
-use tables::{get, memory, put, read, regime, write, ADDRESS, CLEAN, EXTERNAL_ABORT, LEAF, POOL};
+use tables::{
+    get, memory, put, read, regime, under, write, ADDRESS, CLEAN, EXTERNAL_ABORT, LEAF, NO_EL0,
+    NO_EL0_FETCH, NO_EL1_FETCH, NO_WRITE, POOL,
+};
 use vmsa::{
-    walk, Access, Fault, FaultKind, OutputSize, PhysAddr, Pool, Refusal, Regime, Shareability,
-    Stop, Translation, VirtAddr,
+    walk, Access, Fault, FaultKind, OutputSize, PhysAddr, Pool, Range, Refusal, Regime,
+    Shareability, Stop, Translation, VirtAddr,
 };
 
 /// The fault that a walk gives; it leaves the memory alone.
@@ -197,4 +201,81 @@ fn p12_pool_limit() {
     };
     assert_eq!(of(1_048_576), Ok(found()));
     assert_eq!(of(1_052_672), Err(Stop::Refused(Refusal::MemoryPool)));
+}
+
+/// What the leaf, or a table on the way to it, does not permit.
+const DENIED: Fault = Fault {
+    kind: FaultKind::Permission,
+    level: 3,
+    code: 15,
+    cacheable: false,
+    reads: 4,
+};
+
+#[test]
+fn write_under_bit_62() {
+    let mut memory = under([0, NO_WRITE, 0]);
+    assert_eq!(fault(&memory, &regime(), &write()), DENIED);
+    assert_eq!(fault(&memory, &regime(), &write().el1()), DENIED);
+
+    // With HPD it is P2.
+    let regime = regime().range0(Range::new(PhysAddr(POOL), 16).hpd(true));
+    let dirtied = Translation {
+        dirtied: true,
+        ..found()
+    };
+    assert_eq!(walk(&mut memory, &regime, &write()), Ok(dirtied));
+    assert_eq!(get(&memory, LEAF), 0x0008_0000_8000_5743);
+}
+
+#[test]
+fn read_under_bit_61() {
+    let mut memory = under([0, NO_EL0, 0]);
+    assert_eq!(fault(&memory, &regime(), &read()), DENIED);
+    assert_eq!(walk(&mut memory, &regime(), &read().el1()), Ok(found()));
+}
+
+/// The two fetches, from EL0 and from EL1, under these bits.
+fn fetches(bits: [u64; 3]) -> [Result<u64, u16>; 2] {
+    let fetch = Access::fetch(ADDRESS);
+    [fetch.el0(), fetch].map(|fetch| {
+        walk(&mut under(bits), &regime(), &fetch)
+            .map(|found| found.output.0)
+            .map_err(|stop| stop.fault().unwrap().code)
+    })
+}
+
+#[test]
+fn fetch_under_each_bit() {
+    // EL0 may write the page, so EL1 may not fetch from it; but it may where a
+    // table takes EL0's access or the writing away.
+    let (ok, denied) = (Ok(0x8000_5abc), Err(15));
+    assert_eq!(fetches([0, 0, 0]), [ok, denied]);
+    assert_eq!(fetches([0, NO_EL1_FETCH, 0]), [ok, denied]);
+    assert_eq!(fetches([0, NO_EL0_FETCH, 0]), [denied, denied]);
+    assert_eq!(fetches([0, NO_EL0, 0]), [ok, ok]);
+    assert_eq!(fetches([0, NO_WRITE, 0]), [ok, ok]);
+}
+
+#[test]
+fn bits_of_two_tables_add_up() {
+    let (ok, denied) = (Ok(0x8000_5abc), Err(15));
+    assert_eq!(fetches([NO_EL0, 0, NO_EL1_FETCH]), [ok, denied]);
+    assert_eq!(fetches([NO_EL0_FETCH, NO_EL0, 0]), [denied, ok]);
+    let memory = under([NO_EL0, 0, NO_WRITE]);
+    assert_eq!(fault(&memory, &regime(), &read()), DENIED);
+    assert_eq!(fault(&memory, &regime(), &write().el1()), DENIED);
+}
+
+#[test]
+fn bit_63_and_a_leafs_own_have_no_say() {
+    let own = 0b1_1111 << 59;
+    let mut memory = under([1 << 63; 3]);
+    put(&mut memory, LEAF, CLEAN | own);
+    let dirtied = Translation {
+        dirtied: true,
+        ..found()
+    };
+    assert_eq!(walk(&mut memory, &regime(), &write()), Ok(dirtied));
+    assert_eq!(get(&memory, LEAF), 0x0008_0000_8000_5743 | own);
 }

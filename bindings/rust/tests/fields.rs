@@ -3,7 +3,10 @@
 
 mod tables;
 
-use tables::{get, memory, put, read, regime, write, ADDRESS, CLEAN, LEAF, POOL};
+use tables::{
+    get, memory, put, read, regime, under, write, ADDRESS, CLEAN, LEAF, NO_EL0, NO_EL0_FETCH,
+    NO_EL1_FETCH, NO_WRITE, POOL, TABLES,
+};
 use vmsa::{
     walk, Access, AccessKind, Answer, Fault, FaultKind, OutputSize, PhysAddr, Pool, Range, Refusal,
     Regime, Shareability, Stop, Translation, VirtAddr,
@@ -128,6 +131,7 @@ fn one_range(
             root: PhysAddr(root),
             tsz,
             disabled,
+            hpd: false,
         };
         let regime = set(regime(), range);
         assert_eq!(outcome(&regime, &inside), expected);
@@ -241,6 +245,106 @@ fn wxn() {
     assert_eq!(code(ask(&memory, &regime().wxn(true), &fetch)), 15);
     put(&mut memory, LEAF, 0x8000_5000 | AF | AP2 | 3);
     assert!(ask(&memory, &regime().wxn(true), &fetch).is_ok());
+}
+
+#[test]
+fn hpd() {
+    // The page under a table with bit 62, from both ranges; only the range's
+    // own flag counts.
+    let mut memory = roots();
+    put(&mut memory, 0x2010, 0x4000_3003 | NO_WRITE);
+    let range = Range::new(PhysAddr(POOL), 16);
+    assert!(!range.hpd && !Range::DISABLED.hpd);
+    for (hpd0, hpd1) in [(false, false), (false, true), (true, false), (true, true)] {
+        let regime = regime().range0(range.hpd(hpd0)).range1(range.hpd(hpd1));
+        for (address, hpd) in [(ADDRESS, hpd0), (UPPER, hpd1)] {
+            assert!(ask(&memory, &regime, &Access::read(address, 4).el0()).is_ok());
+            let answer = ask(&memory, &regime, &Access::write(address, 4).el0());
+            assert_eq!(answer.err().map(stop), (!hpd).then_some(15));
+        }
+    }
+}
+
+/// Which accesses a writable page permits under these bits: read, write and
+/// fetch from EL0, and then from EL1. The last is of a page of EL1 alone, since
+/// EL1 fetches nothing that EL0 may write.
+fn permitted(bits: [u64; 3]) -> [bool; 6] {
+    let mut memory = under(bits);
+    let mut ask = |leaf: u64, access: Access| {
+        put(&mut memory, LEAF, 0x8000_5000 | AF | leaf | 3);
+        ask(&memory, &regime(), &access).is_ok()
+    };
+    let fetch = Access::fetch(ADDRESS);
+    [
+        ask(AP1, read()),
+        ask(AP1, write()),
+        ask(AP1, fetch.el0()),
+        ask(AP1, read().el1()),
+        ask(AP1, write().el1()),
+        ask(0, fetch),
+    ]
+}
+
+#[test]
+fn bits_of_tables() {
+    for (bit, expected) in [
+        (0, [true; 6]),
+        (NO_WRITE, [true, false, true, true, false, true]),
+        (NO_EL0, [false, false, true, true, true, true]),
+        (NO_EL0_FETCH, [true, true, false, true, true, true]),
+        (NO_EL1_FETCH, [true, true, true, true, true, false]),
+        (1 << 63, [true; 6]),
+    ] {
+        assert_eq!(permitted([bit, 0, 0]), expected);
+        assert_eq!(permitted([0, bit, 0]), expected);
+        assert_eq!(permitted([0, 0, bit]), expected);
+        assert_eq!(permitted([bit; 3]), expected);
+    }
+    let all = [NO_WRITE, NO_EL0 | NO_EL0_FETCH, NO_EL1_FETCH];
+    assert_eq!(permitted(all), [false, false, false, true, false, false]);
+}
+
+#[test]
+fn bits_with_no_say() {
+    // In a table all but its address, bits 1 and 0, and 62 to 59; in the leaf
+    // all but its fields.
+    let accesses = AccessKind::ALL.map(|kind| {
+        let probe = matches!(kind, AccessKind::ProbeRead | AccessKind::ProbeWrite);
+        Access::new(kind, ADDRESS, if probe { 1 } else { 4 })
+    });
+    let same = |offset, descriptor| {
+        let mut memory = memory();
+        put(&mut memory, offset, descriptor);
+        for access in accesses.into_iter().flat_map(|a| [a, a.el0()]) {
+            let expected = ask(&tables::memory(), &regime(), &access);
+            assert_eq!(
+                ask(&memory, &regime(), &access),
+                expected,
+                "{descriptor:#x}"
+            );
+        }
+    };
+    for bit in (2..12).chain(48..59).chain([63]) {
+        for (offset, table) in TABLES {
+            same(offset, table | 1 << bit);
+        }
+    }
+    for bit in [5, 48, 49, 50, 52].into_iter().chain(55..64) {
+        same(LEAF, CLEAN | 1 << bit);
+    }
+}
+
+#[test]
+fn a_table_and_a_leaf() {
+    // Entry 1 of the root leads back to it, so that the first table's
+    // descriptor is also the leaf of the address of entries 1, 1, 1 and 0.
+    let mut memory = under([NO_WRITE, 0, 0]);
+    put(&mut memory, 0x0008, POOL | 3);
+    let through_root = VirtAddr(1 << 39 | 1 << 30 | 1 << 21 | 0xabc);
+    let found = walk(&mut memory, &regime(), &Access::write(through_root, 4)).unwrap();
+    assert_eq!(found.output, PhysAddr(POOL + 0x1abc));
+    assert_eq!(get(&memory, 0x0000), 0x4000_1003 | NO_WRITE | AF);
+    assert_eq!(code(ask(&memory, &regime(), &write())), 15);
 }
 
 #[test]

@@ -447,6 +447,8 @@ fn change(question: &mut Question, random: &mut Random) {
         _ => {
             regime.range0.disabled = random.below(2) == 0;
             regime.range1.disabled = random.below(2) == 0;
+            regime.range0.hpd = random.below(2) == 0;
+            regime.range1.hpd = random.below(2) == 0;
         }
     }
 }

@@ -3,7 +3,10 @@
 
 mod tables;
 
-use tables::{get, memory, put, read, regime, write, Random, ADDRESS, CLEAN, LEAF, LENGTH, POOL};
+use tables::{
+    get, memory, put, read, regime, write, Random, ADDRESS, CLEAN, LEAF, LENGTH, NO_EL0, NO_WRITE,
+    POOL, TABLES,
+};
 use vmsa::{
     walk, Access, AccessKind, Answer, FaultKind, PhysAddr, Pool, Range, Refusal, Session, Stop,
     VirtAddr,
@@ -141,6 +144,43 @@ fn script() {
     assert_eq!(format!("{session:?}"), "Session { set: true, held: 1, .. }");
 }
 
+/// The code of the fault, and its reads.
+fn denied(answer: Answer) -> (u16, u8) {
+    let fault = answer.unwrap_err().fault().unwrap();
+    (fault.code, fault.reads)
+}
+
+#[test]
+fn a_held_sum() {
+    // An entry holds what the tables take away as the walk met them.
+    let mut memory = memory();
+    let mut session = Session::new();
+    session.set_regime(&memory, &regime()).unwrap();
+    let (offset, table) = TABLES[2];
+    let third = PhysAddr(POOL + offset as u64);
+
+    assert_eq!(reads(session.access(&mut memory, &read())), 4);
+    session.store(&mut memory, third, table | NO_EL0).unwrap();
+    assert!(session.access(&mut memory, &read()).is_ok());
+    session.invalidate_all();
+    assert_eq!(denied(session.access(&mut memory, &read())), (15, 4));
+    session.store(&mut memory, third, table).unwrap();
+    assert_eq!(denied(session.access(&mut memory, &read())), (15, 0));
+    session.invalidate_all();
+    assert_eq!(reads(session.access(&mut memory, &read())), 4);
+
+    // A write that would make the page dirty walks, and meets the bit; held,
+    // it leaves nothing to walk for.
+    session.store(&mut memory, third, table | NO_WRITE).unwrap();
+    assert_eq!(denied(session.access(&mut memory, &write())), (15, 4));
+    assert_eq!(denied(session.access(&mut memory, &write())), (15, 0));
+    assert_eq!(reads(session.access(&mut memory, &read())), 0);
+    assert_eq!(get(&memory, LEAF), CLEAN | AF);
+    session.store(&mut memory, third, table).unwrap();
+    session.invalidate_all();
+    assert!(session.access(&mut memory, &write()).unwrap().dirtied);
+}
+
 #[test]
 fn every_entry() {
     // 64 pages side by side fill 64 entries; each stays until it is dropped.
@@ -194,14 +234,19 @@ fn same_calls_same_session() {
 }
 
 /// A descriptor that often leads somewhere: a table in the pool (a page at
-/// level 3), or a block, with any permissions.
+/// level 3), or a block, with any permissions. One in four has something in
+/// bits 63 to 59.
 fn descriptor(random: &mut Random) -> u64 {
-    let leaf = random.next() & 0x0068_0000_0000_0ffc;
+    let table = match random.below(4) {
+        0 => random.next() & 0xf800_0000_0000_0000,
+        _ => 0,
+    };
+    let bits = table | random.next() & 0x0068_0000_0000_0ffc;
     match random.below(32) {
         0 => random.next(),
         1 => 0,
-        2..=20 => (POOL + 0x1000 * random.below(17)) | leaf | 3,
-        _ => 0x8000_0000 | random.below(0x10000) << 12 | leaf | 1,
+        2..=20 => (POOL + 0x1000 * random.below(17)) | bits | 3,
+        _ => 0x8000_0000 | random.below(0x10000) << 12 | bits | 1,
     }
 }
 
@@ -243,8 +288,8 @@ fn as_the_plain_walk() {
                     let (ha, hd) = updates(&mut random);
                     let next = regime()
                         .pool(Pool::new(0x1000, 0x10000, PhysAddr(POOL)))
-                        .range0(range)
-                        .range1(range)
+                        .range0(range.hpd(random.below(4) == 0))
+                        .range1(range.hpd(random.below(4) == 0))
                         .ha(ha)
                         .hd(hd)
                         .wxn(random.below(4) == 0)

@@ -2,9 +2,10 @@
 
 use super::{bytes, bytes_mut, scribbled, CAccess, CAnswer, CRegime, Plain, Spelling};
 use crate::random::Random;
-use crate::reference::{Access, Regime};
-use crate::session::{page_of, place_of, Call, PLACES};
-use std::mem::size_of;
+use crate::reference::{Access, Leaf, Regime, PXN_TABLE, TAKING_FIELD};
+use crate::session::{page_of, place_of, Call, Held, Session, PLACES};
+use std::array;
+use std::mem::{offset_of, size_of};
 
 /// What a session replies to a call, in the library's form.
 #[derive(Clone, Copy, Debug, PartialEq, Eq)]
@@ -24,11 +25,19 @@ pub trait Subject: Clone {
     fn store(&mut self, memory: &mut [u8], address: u64, value: u64) -> u8;
     fn invalidate_all(&mut self);
 
-    /// Before a call: noise for the session's spare bytes.
+    /// Takes other bytes for its own.
+    fn put(&mut self, bytes: &CSession);
+
+    /// Before a call: noise for what of the session's bytes has no say.
     fn scribble(&mut self, _noise: u64) {}
 
     /// After a call: what is wrong with the session's bytes.
     fn wrong_bytes(&self, _call: &Call, _reply: &Reply) -> Option<String> {
+        None
+    }
+
+    /// After a call: in what its bytes say another session than this one.
+    fn wrong_session(&self, _wanted: &Session) -> Option<String> {
         None
     }
 
@@ -46,17 +55,22 @@ pub trait Subject: Clone {
     }
 }
 
-/// A place of the library's session. Nothing looks at more of it, or of the
-/// session, than its spare bytes and whether it changed.
+/// A place of the library's session.
 #[repr(C)]
 #[derive(Clone, Copy)]
 pub struct CEntry {
     pub page: u64,
     pub value: u64,
+    /// Levels below the leaf.
     pub left: u8,
     pub held: u8,
-    pub spare: [u8; 6],
+    /// The tables' sum in bits 3..0 (RULES 15.8).
+    pub tables: u8,
+    pub spare: [u8; 5],
 }
+
+/// The bits of `tables` that have a say: the tables' sum.
+pub const SUM_BITS: u8 = 0x0F;
 
 #[repr(C)]
 #[derive(Clone, Copy)]
@@ -69,6 +83,7 @@ pub struct CSession {
 
 const _: () = {
     assert!(size_of::<CEntry>() == 24);
+    assert!(offset_of!(CEntry, tables) == 18);
     assert!(size_of::<CSession>() == 1608);
 };
 
@@ -76,18 +91,64 @@ const _: () = {
 // an entry to theirs.
 unsafe impl Plain for CSession {}
 
-impl CSession {
-    fn each_spare(&mut self, mut each: impl FnMut(&mut [u8])) {
-        each(&mut self.regime.spare);
-        self.each_spare_of_entries(&mut each);
-        each(&mut self.spare);
+impl CEntry {
+    /// What it holds; whatever its numbers are (RULES 10.5 and 15.8).
+    pub fn read(&self) -> Option<Held> {
+        let level = 3u8.checked_sub(self.left)?;
+        let leaf = Leaf {
+            descriptor: self.value,
+            level,
+            taken: u64::from(self.tables) << PXN_TABLE & TAKING_FIELD,
+        };
+        (self.held != 0).then_some(Held {
+            page: self.page,
+            leaf,
+        })
     }
 
-    fn each_spare_of_entries(&mut self, mut each: impl FnMut(&mut [u8])) {
-        for entry in &mut self.entries {
-            each(&mut entry.spare);
+    /// Fills what has no say: its spare bytes, and bits of `tables`.
+    fn fill_idle(&mut self, bits: u64) {
+        let [tables, spare @ ..] = bits.to_le_bytes();
+        self.tables = self.tables & SUM_BITS | tables & !SUM_BITS;
+        fill(&mut self.spare, &spare);
+    }
+}
+
+/// Fills spare bytes with the first of some.
+fn fill(spare: &mut [u8], with: &[u8]) {
+    spare.copy_from_slice(&with[..spare.len()]);
+}
+
+impl CSession {
+    /// The session that these numbers say.
+    pub fn read(&self) -> Session {
+        Session {
+            regime: (self.set != 0).then(|| self.regime.read()),
+            places: array::from_fn(|place| self.entries[place].read()),
         }
     }
+
+    /// Fills all that has no say.
+    fn fill_idle(&mut self, mut bits: impl FnMut() -> u64) {
+        fill(&mut self.regime.spare, &bits().to_le_bytes());
+        for entry in &mut self.entries {
+            entry.fill_idle(bits());
+        }
+        fill(&mut self.spare, &bits().to_le_bytes());
+    }
+}
+
+/// In what a session, as its bytes say it, is not as it should be.
+fn difference_in_meaning(session: &Session, wanted: &Session) -> Option<String> {
+    if session.regime != wanted.regime {
+        let (is, should) = (session.regime, wanted.regime);
+        return Some(format!("its regime is {is:x?}, and should be {should:x?}"));
+    }
+    let at = (0..PLACES).find(|&at| session.places[at] != wanted.places[at])?;
+    let (is, should) = (session.places[at], wanted.places[at]);
+    Some(format!(
+        "place {at} holds {is:x?}, and should hold {should:x?}"
+    ))
 }
 
 /// The first byte in which a session is not as it should be.
@@ -141,7 +202,7 @@ impl LibrarySession {
         bytes_mut(&mut wanted).iter_mut().for_each(|b| *b = !*b);
         (functions.empty)(&mut session);
         (functions.empty)(&mut wanted);
-        wanted.each_spare(|spare| spare.fill(0));
+        wanted.fill_idle(|| 0);
         match difference(&session, &wanted) {
             Some(words) => Err(words),
             None => Ok(LibrarySession {
@@ -152,14 +213,14 @@ impl LibrarySession {
         }
     }
 
-    /// The session as a call must leave it: written bytes as they are, but
-    /// spare ones 0, and all others as they were.
+    /// The session as a call must leave it: written bytes as they are, but 0
+    /// where they have no say, and all others as they were.
     fn wanted(&self, call: &Call, reply: &Reply) -> CSession {
         let mut wanted = self.found;
         match (call, reply) {
             (Call::SetRegime(_), Reply::Changed(0)) => {
                 wanted = self.session;
-                wanted.each_spare(|spare| spare.fill(0));
+                wanted.fill_idle(|| 0);
             }
             // The place is filled by a walk that may be remembered.
             (Call::Access(access), Reply::Answered(answer))
@@ -167,11 +228,11 @@ impl LibrarySession {
             {
                 let place = place_of(page_of(access.address));
                 wanted.entries[place] = self.session.entries[place];
-                wanted.entries[place].spare.fill(0);
+                wanted.entries[place].fill_idle(0);
             }
             (Call::DropAll, _) => {
                 wanted.entries = self.session.entries;
-                wanted.each_spare_of_entries(|spare| spare.fill(0));
+                wanted.entries.iter_mut().for_each(|e| e.fill_idle(0));
             }
             _ => {}
         }
@@ -211,15 +272,22 @@ impl Subject for LibrarySession {
         unsafe { (self.functions.invalidate_all)(&mut self.session) }
     }
 
+    fn put(&mut self, bytes: &CSession) {
+        self.session = *bytes;
+        self.found = *bytes;
+    }
+
     fn scribble(&mut self, noise: u64) {
         let mut random = Random::new(noise);
-        self.session.each_spare(|spare| {
-            spare.copy_from_slice(&random.bits().to_le_bytes()[..spare.len()]);
-        });
+        self.session.fill_idle(|| random.bits());
         self.found = self.session;
     }
 
     fn wrong_bytes(&self, call: &Call, reply: &Reply) -> Option<String> {
         difference(&self.session, &self.wanted(call, reply))
+    }
+
+    fn wrong_session(&self, wanted: &Session) -> Option<String> {
+        difference_in_meaning(&self.session.read(), wanted)
     }
 }

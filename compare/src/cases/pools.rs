@@ -66,6 +66,8 @@ pub fn ask_last(maker: &mut Maker, family: &'static str) -> u64 {
     let scene = &mut maker.scene;
     let range = random.below(2) as usize;
     scene.regime.ranges[range].disabled = false;
+    // So that no table takes the writing away.
+    scene.regime.ranges[range].hpd = true;
     (scene.regime.ha, scene.regime.hd) = (true, true);
     let path = scene.draw_path_to_end(random, range);
     let output = scene.draw_output(random);

@@ -1,5 +1,6 @@
 //! Every combination of permission bits, dirty state and controls, crossed
-//! with every kind of access, at every leaf level.
+//! with every kind of access, at every leaf level. What tables take away is
+//! switched off here; it has a family of its own.
 
 use super::scene::{draw_device, draw_granules, draw_normal, Placement, UPDATES};
 use super::Maker;
@@ -54,6 +55,7 @@ fn ask(maker: &mut Maker, choice: &Choice) {
     let highest = if choice.level == 1 { 33 } else { 39 };
     scene.regime.ranges[range].t = random.between(16, highest) as u8;
     scene.regime.ranges[range].disabled = false;
+    scene.regime.ranges[range].hpd = true;
     // Of the four numbers two are for both on, which has the most to do.
     let updates = (choice.bits & 3) as usize;
     (scene.regime.ha, scene.regime.hd) = UPDATES[updates.min(UPDATES.len() - 1)];

@@ -4,7 +4,7 @@
 use crate::random::Random;
 use crate::reference::{
     first_level, index_bits, lowest_index_bit, output_limit, Access, Kind, Pool, Range, Regime,
-    ADDRESS_FIELD, AF, AP1, AP2, DBM, GRANULE, PHYSICAL_LIMIT,
+    ADDRESS_FIELD, AF, AP1, AP2, DBM, GRANULE, PHYSICAL_LIMIT, TAKING, TAKING_FIELD,
 };
 
 /// Entries in a table below the first one.
@@ -124,7 +124,7 @@ pub fn draw_leaf(random: &mut Random, level: usize, output: u64) -> u64 {
 }
 
 /// A leaf that a write from EL1 marks accessed and dirty, where HA and HD are
-/// on.
+/// on and no table takes the writing away.
 pub fn draw_clean_leaf(random: &mut Random, level: usize, output: u64) -> u64 {
     let leaf = draw_leaf(random, level, output);
     leaf & !(1 << AF) | 1 << AP2 | 1 << DBM
@@ -142,9 +142,16 @@ pub fn draw_marking_access(random: &mut Random, address: u64) -> Access {
     }
 }
 
-/// Any bits beside a table's address and type, 63..59 among them.
+/// Any bits beside a table's address and type. Of those that take something
+/// away there are often none, so that much is left below a few tables.
 pub fn draw_table(random: &mut Random, address: u64) -> u64 {
-    (random.bits() & !ADDRESS_FIELD) | (address & ADDRESS_FIELD) | 3
+    let any = random.bits();
+    let taking = match random.below(8) {
+        0..=4 => 0,
+        5 | 6 => 1 << random.pick(&TAKING),
+        _ => any & TAKING_FIELD,
+    };
+    (any & !ADDRESS_FIELD & !TAKING_FIELD) | taking | (address & ADDRESS_FIELD) | 3
 }
 
 impl Scene {
@@ -154,6 +161,7 @@ impl Scene {
             root: 0,
             t: 16,
             disabled: false,
+            hpd: false,
         };
         Scene {
             memory: Vec::new(),
@@ -252,6 +260,7 @@ impl Scene {
                 root: self.draw_root(random),
                 t: random.between(16, 39) as u8,
                 disabled: random.once_in(8),
+                hpd: random.once_in(4),
             };
         }
         self.memory.clear();
@@ -277,12 +286,18 @@ impl Scene {
             let noise = random.bits();
             let other = random.bits();
             let rest = noise & !ADDRESS_FIELD & !3;
+            // As for `draw_table`.
+            let table = if other >> 61 < 5 {
+                rest & !TAKING_FIELD
+            } else {
+                rest
+            };
             let descriptor = match noise >> 12 & 15 {
                 0 => noise & !1,
                 1 => noise,
                 2..=5 => rest | (other & (limit - 1) & ADDRESS_FIELD) | 1,
-                6 | 7 => rest | (other & (limit - 1) & ADDRESS_FIELD) | 3,
-                _ => rest | (address + GRANULE * (other % granules)) | 3,
+                6 | 7 => table | (other & (limit - 1) & ADDRESS_FIELD) | 3,
+                _ => table | (address + GRANULE * (other % granules)) | 3,
             };
             bytes.copy_from_slice(&descriptor.to_le_bytes()[..bytes.len()]);
         }

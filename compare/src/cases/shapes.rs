@@ -41,6 +41,9 @@ enum Twist {
     OneTable,
     /// One descriptor points to its own table and serves every level.
     Recursive,
+    /// An entry of level 2 points to its own table, so that the table
+    /// descriptors there are leaves of other addresses.
+    Loop,
     /// Two entries lead to one table.
     Shared(usize),
     /// One of the bits above the range is wrong.
@@ -79,7 +82,7 @@ fn twists(first: usize, leaf_level: usize) -> Vec<Twist> {
         }
     }
     if leaf_level == 3 {
-        all.push(Twist::Recursive);
+        all.extend([Twist::Recursive, Twist::Loop]);
     }
     all
 }
@@ -233,7 +236,8 @@ fn bend(random: &mut Random, scene: &Scene, wish: &Wish, path: &mut Path) {
 }
 
 /// Changes what was written, or the address. Gives the address for the path
-/// and one that reaches the same leaf.
+/// and one that reaches the same leaf; or, in a loop, one whose leaf is a table
+/// on the path.
 fn spoil(
     random: &mut Random,
     scene: &mut Scene,
@@ -247,6 +251,15 @@ fn spoil(
         Twist::Recursive => {
             let table = draw_table(random, path.tables[wish.leaf_level]);
             scene.put(path.entry(wish.leaf_level), table);
+        }
+        Twist::Loop => {
+            let mut round = *path;
+            round.indices[2] = scene.draw_index(random, wish.range, 2);
+            round.tables[3] = path.tables[2];
+            round.indices[3] = path.indices[2];
+            let table = draw_table(random, path.tables[2]);
+            scene.put(round.entry(2), table);
+            return (address, scene.address(random, &round));
         }
         Twist::Shared(level) => {
             let mut other = *path;

@@ -8,7 +8,7 @@ use crate::cases::scene::{draw_access, draw_access_of, draw_table, HD_ALONE};
 use crate::random::Random;
 use crate::reference::{
     find_leaf, is_device, offset_in_memory, output_limit, read_descriptor, writable_clean, Access,
-    Kind, Regime, AF, AP1, AP2, DBM, GRANULE, PHYSICAL_LIMIT, POOL_LIMIT, PXN, UXN,
+    Kind, Regime, AF, AP1, AP2, DBM, GRANULE, PHYSICAL_LIMIT, POOL_LIMIT, PXN, TAKING, UXN,
 };
 use crate::refusals::{row_1, SET_REGIME};
 use crate::session::{Call, Held, Session};
@@ -101,8 +101,11 @@ fn draw_setting(number: u64, random: &mut Random) -> (&'static str, Mood, World)
 #[derive(Clone, Copy)]
 enum Planned {
     Store(u64),
+    /// A bit that a table on the way takes something away with is turned.
+    Turn(u64),
     Write(u64),
     Look(u64),
+    Drop,
 }
 
 pub struct Script {
@@ -243,30 +246,21 @@ impl Script {
         }
     }
 
-    /// Where a page is held with a dirty mark to come, at times: its tables
-    /// are changed, or a page with the same leaf is written; then it is
-    /// written itself, and looked at.
+    /// The next call of a plan, where there is one or one is made.
     fn follow_plan(&mut self, session: &Session, memory: &[u8]) -> Option<Call> {
         let regime = session.regime?;
-        if self.plan.is_empty() && self.random.once_in(6) {
-            let places = session.places.iter().flatten().copied();
-            let clean = places.filter(|held| writable_clean(&regime, held.leaf.descriptor));
-            let clean: Vec<Held> = clean.collect();
-            if !clean.is_empty() {
-                let held = self.random.pick(&clean);
-                let page = held.page * GRANULE;
-                let twin = |other: &&Held| other.leaf == held.leaf && other.page != held.page;
-                self.plan = vec![Planned::Look(page), Planned::Write(page)];
-                match clean.iter().find(twin) {
-                    Some(twin) => self.plan.push(Planned::Write(twin.page * GRANULE)),
-                    None if self.mood.store == 0 || self.random.once_in(4) => {}
-                    None => self.plan.push(Planned::Store(page)),
-                }
+        if self.plan.is_empty() {
+            if self.random.once_in(6) {
+                self.plan_mark(&regime, session);
+            } else if self.mood.store > 0 && self.random.once_in(20) {
+                self.plan_turn(session);
             }
         }
         let random = &mut self.random;
         match self.plan.pop()? {
             Planned::Store(page) => Some(self.draw_store_for(page, session, memory)),
+            Planned::Turn(page) => Some(self.draw_turn(page, session, memory)),
+            Planned::Drop => Some(Call::DropAll),
             Planned::Write(page) => {
                 let kind = random.pick(&[Kind::Write, Kind::Update]);
                 let mut access = draw_access_of(random, page, kind);
@@ -277,6 +271,45 @@ impl Script {
                 Some(Call::Access(access))
             }
             Planned::Look(page) => Some(Call::Access(draw_access(random, page))),
+        }
+    }
+
+    /// Where a page is held with a dirty mark to come: its tables are changed,
+    /// or a page with the same leaf is written; then it is written itself, and
+    /// looked at.
+    fn plan_mark(&mut self, regime: &Regime, session: &Session) {
+        let places = session.places.iter().flatten().copied();
+        let clean = places.filter(|held| writable_clean(regime, &held.leaf));
+        let clean: Vec<Held> = clean.collect();
+        if clean.is_empty() {
+            return;
+        }
+        let held = self.random.pick(&clean);
+        let page = held.page * GRANULE;
+        let twin = |other: &&Held| {
+            other.leaf.descriptor == held.leaf.descriptor && other.page != held.page
+        };
+        self.plan = vec![Planned::Look(page), Planned::Write(page)];
+        match clean.iter().find(twin) {
+            Some(twin) => self.plan.push(Planned::Write(twin.page * GRANULE)),
+            None if self.mood.store == 0 || self.random.once_in(4) => {}
+            None if self.random.once_in(3) => self.plan.push(Planned::Turn(page)),
+            None => self.plan.push(Planned::Store(page)),
+        }
+    }
+
+    /// Where a page is held: what its tables take away is changed, and it is
+    /// looked at; then perhaps all is dropped, and it is looked at again.
+    fn plan_turn(&mut self, session: &Session) {
+        let held: Vec<u64> = session.places.iter().flatten().map(|h| h.page).collect();
+        if held.is_empty() {
+            return;
+        }
+        let page = self.random.pick(&held) * GRANULE;
+        let look = Planned::Look(page);
+        self.plan = vec![look, look, Planned::Turn(page)];
+        if self.mood.drop > 0 && self.random.once_in(3) {
+            self.plan.insert(1, Planned::Drop);
         }
     }
 
@@ -408,10 +441,7 @@ impl Script {
         let regime = session.regime.unwrap_or(self.world.regimes[0]);
         let pool = regime.pool;
         let fits = pool.start + pool.length <= memory.len();
-        let mut visited = Vec::with_capacity(4);
-        if fits {
-            let _ = find_leaf(memory, &regime, page, &mut visited);
-        }
+        let visited = way_to(page, &regime, memory);
         let inside = pool.address + 8 * self.random.below(pool.length as u64 / 8);
         let last = visited.last().copied().unwrap_or(inside);
         let address = match self.random.below(20) {
@@ -442,6 +472,23 @@ impl Script {
         Call::Store { address, value }
     }
 
+    /// Turns one of the bits that a table on the way to a page takes something
+    /// away with; any store, where there is no table.
+    fn draw_turn(&mut self, page: u64, session: &Session, memory: &[u8]) -> Call {
+        let regime = session.regime.unwrap_or(self.world.regimes[0]);
+        let mut tables = way_to(page, &regime, memory);
+        tables.pop();
+        if tables.is_empty() {
+            return self.draw_store_for(page, session, memory);
+        }
+        let address = self.random.pick(&tables);
+        let offset = offset_in_memory(&regime.pool, address).expect("a table was read there");
+        let old = read_descriptor(memory, offset);
+        self.undone.push((address, old));
+        let value = old ^ 1 << self.random.pick(&TAKING);
+        Call::Store { address, value }
+    }
+
     /// Off the multiples of 8, beside the pool, or far from it.
     fn draw_bad_address(&mut self, regime: &Regime, good: u64) -> u64 {
         let first = regime.pool.address;
@@ -466,7 +513,7 @@ impl Script {
         let granule = regime.pool.address + GRANULE * random.below(granules);
         let output = random.below(limit);
         let device = regime.attributes.iter().position(|&byte| is_device(byte));
-        match random.below(30) {
+        match random.below(33) {
             0 | 1 => set_bit(old, AF, true),
             2 | 3 => set_bit(old, AF, false),
             4 | 5 => set_bit(old, AP2, false),
@@ -492,7 +539,20 @@ impl Script {
                 let index = device.unwrap_or(0) as u64;
                 set_bit(old & !(7 << 2) | index << 2, AF, random.coin())
             }
+            // In a table most of these have a say, in a leaf none.
+            29..=31 => old ^ 1 << random.between(59, 63),
             _ => random.bits(),
         }
     }
+}
+
+/// The descriptor addresses on the way to a page, none where the memory is too
+/// short for the pool.
+fn way_to(page: u64, regime: &Regime, memory: &[u8]) -> Vec<u64> {
+    let pool = &regime.pool;
+    let mut visited = Vec::with_capacity(4);
+    if pool.start + pool.length <= memory.len() {
+        let _ = find_leaf(memory, regime, page, &mut visited);
+    }
+    visited
 }

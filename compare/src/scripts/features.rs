@@ -1,10 +1,11 @@
 //! What scripts can meet.
 
 use super::play::Bytes;
-use crate::boundary::{FAULT, SUCCESS};
+use crate::boundary::{FAULT, SUCCESS, SUM_BITS};
 use crate::counts::Countable;
+use crate::decisions::Decision;
 use crate::limits::{Limit, Octave};
-use crate::reference::{FaultKind, Kind, POOL_LIMIT};
+use crate::reference::{FaultKind, Kind, POOL_LIMIT, TAKING};
 use crate::refusals::{pairs, ACCESS, SET_REGIME, STORE};
 use crate::rule3::Class;
 use crate::session::PLACES;
@@ -124,6 +125,53 @@ pub enum Odd {
     OtherLength,
     /// An access of which the second half says nothing, for that reason.
     Unsaid,
+    /// A hit by a write on a leaf that would be writable-clean but for bit 62.
+    CleanTaken,
+    /// A re-walk that bit 62 stops, which the held sum did not have.
+    RewalkTaken,
+    /// A hit on a leaf that another page holds under another sum.
+    TwoSums,
+    /// A hit with HPD on, where bits of the tables would decide.
+    HpdOn,
+}
+
+/// What is met in sessions of any bytes (RULES 10.5).
+#[derive(Clone, Copy, Debug, PartialEq, Eq, PartialOrd, Ord)]
+pub enum Foreign {
+    /// A hit by bits 3..0 of its entry's `tables`.
+    Sum(u8),
+    /// A hit where bits 7..4 would decide if they were the sum.
+    IdleBits,
+    /// A hit that the held sum decides, though HPD is on.
+    HpdOn,
+    /// A hit on a leaf of level 0.
+    LevelZero,
+    /// A walk of a page whose entry has its leaf at no level.
+    NoLevel,
+    /// A hit that tells an Access flag update, on a leaf with AF 0.
+    ToldAccessed,
+    /// A hit that is an Access flag fault.
+    AccessFlag,
+    /// A hit under a regime that a row would refuse.
+    Hit(u8),
+    /// A walk under one.
+    Walked(u8),
+}
+
+impl Foreign {
+    fn all() -> impl Iterator<Item = Self> {
+        let rows = SET_REGIME.iter().copied().filter(|&row| row != 1);
+        let under = rows.flat_map(|row| [Foreign::Hit(row), Foreign::Walked(row)]);
+        let alone = [
+            Foreign::IdleBits,
+            Foreign::HpdOn,
+            Foreign::LevelZero,
+            Foreign::NoLevel,
+            Foreign::ToldAccessed,
+            Foreign::AccessFlag,
+        ];
+        (0..=SUM_BITS).map(Foreign::Sum).chain(alone).chain(under)
+    }
 }
 
 /// One thing to meet.
@@ -151,15 +199,23 @@ pub enum Feature {
     HitSince(Since),
     /// A hit where the plain walk would say otherwise.
     Stale(End),
+    /// A hit that a bit of the held sum decides.
+    HitDecided(Decision),
+    /// A hit whose held sum has a bit that a walk would not meet (true), or
+    /// the other way round.
+    StaleSum(u32, bool),
     Rewalk(Kind, End, bool),
     Walked(Before, End, bool),
     Emptied(Emptying),
+    /// The same, and the tables now take other things away.
+    OtherSum(Emptying),
     Limit(Asked, Limit),
     /// A leaf that an access marked, by its place in the pool.
     Marked(Octave),
     /// A descriptor that was stored, by its place in the pool.
     Stored(Octave),
     Odd(Odd),
+    Foreign(Foreign),
     FirstHalf(bool),
     InScript(Class),
     After(Class, Bytes),
@@ -204,10 +260,14 @@ impl fmt::Display for Feature {
                 let kept = if remembered { "yes" } else { "no" };
                 write!(out, "{before:?} {end} {kept}")
             }
-            F::Emptied(by) => write!(out, "{by:?}"),
+            F::HitDecided(decision) => write!(out, "{decision}"),
+            F::StaleSum(bit, true) => write!(out, "{bit} held"),
+            F::StaleSum(bit, false) => write!(out, "{bit} not held"),
+            F::Emptied(by) | F::OtherSum(by) => write!(out, "{by:?}"),
             F::Limit(asked, limit) => write!(out, "{asked:?} {limit:?}"),
             F::Marked(octave) | F::Stored(octave) => write!(out, "{octave}"),
             F::Odd(odd) => write!(out, "{odd:?}"),
+            F::Foreign(what) => write!(out, "{what:?}"),
             F::FirstHalf(said) => write!(out, "{}", if said { "said" } else { "not said" }),
             F::InScript(class) => write!(out, "{class:?}"),
             F::After(class, bytes) => write!(out, "{class:?} {bytes:?}"),
@@ -237,13 +297,17 @@ impl Countable for Feature {
             F::HitPlace(_) => "hits by place",
             F::HitSince(_) => "hits by what came since the walk",
             F::Stale(_) => "hits where a walk would differ, by that walk",
+            F::HitDecided(_) => "hits that a bit of the held sum decides",
+            F::StaleSum(..) => "hits where a walk would meet another sum, by bit",
             F::Rewalk(..) => "re-walks",
             F::Walked(..) => "walks by what the place held, end, and remembered or not",
             F::Emptied(_) => "walks of a page held before an emptying",
+            F::OtherSum(_) => "the same with another sum than it was held with",
             F::Limit(..) => "limits of memory and pool",
             F::Marked(_) => "leaves marked, by granule of the pool",
             F::Stored(_) => "stores accepted, by granule of the pool",
             F::Odd(_) => "odd",
+            F::Foreign(_) => "sessions of any bytes",
             F::FirstHalf(_) => "rule 3, first half",
             F::InScript(_) => "rule 3, second half, in scripts",
             F::After(..) => "rule 3, second half, after scripts",
@@ -257,6 +321,7 @@ impl Countable for Feature {
         hits(&mut all);
         walks(&mut all);
         lengths(&mut all);
+        all.extend(Foreign::all().map(F::Foreign));
         all.extend([false, true].map(F::FirstHalf));
         all.insert(F::InScript(Class::NoRegime));
         for class in [
@@ -347,6 +412,11 @@ fn hits(all: &mut BTreeSet<Feature>) {
     all.extend([Odd::ReadTwice, Odd::DirtiedElsewhere, Odd::OtherAddress].map(F::Odd));
     all.extend([Odd::CleanFault, Odd::CleanProbe, Odd::ManyHeld].map(F::Odd));
     all.extend([Odd::NineBeforeOne, Odd::OtherLength, Odd::Unsaid].map(F::Odd));
+    all.extend([Odd::CleanTaken, Odd::RewalkTaken, Odd::TwoSums, Odd::HpdOn].map(F::Odd));
+    all.extend(Decision::all().map(F::HitDecided));
+    for held in [false, true] {
+        all.extend(TAKING.map(|bit| F::StaleSum(bit, held)));
+    }
 }
 
 /// Walks that can occur, and what they leave in the place.
@@ -378,14 +448,13 @@ fn walks(all: &mut BTreeSet<Feature>) {
             }
         }
     }
-    all.extend(
-        [
-            Emptying::DropAll,
-            Emptying::SameRegime,
-            Emptying::OtherRegime,
-        ]
-        .map(F::Emptied),
-    );
+    for by in [
+        Emptying::DropAll,
+        Emptying::SameRegime,
+        Emptying::OtherRegime,
+    ] {
+        all.extend([F::Emptied(by), F::OtherSum(by)]);
+    }
 }
 
 /// What has to do with the lengths of memory and pool.

@@ -136,6 +136,7 @@ impl<'a, S: Subject> Play<'a, S> {
 
         let mut why = differences(&wanted, &got, &self.memory, &self.arena);
         why.extend(self.subject.wrong_bytes(&step.call, &got));
+        why.extend(self.subject.wrong_session(&self.session));
         match self.history.check(at) {
             Ok(checked) if why.is_empty() => {
                 self.tally
@@ -200,6 +201,7 @@ impl<'a, S: Subject> Play<'a, S> {
         let got = subject.call(lent, &step.call, step.spelling);
         let mut why = differences(&wanted, &got, &scratch.memory, &scratch.arena);
         why.extend(subject.wrong_bytes(&step.call, &got));
+        why.extend(subject.wrong_session(&session));
 
         let promised = &mut scratch.promised[..step.lent];
         match self.history.whole().promise(access, promised) {
@@ -290,7 +292,11 @@ impl Scratch {
 }
 
 /// A call to the reference, its reply in the library's form.
-fn ask(session: &mut Session, memory: &mut [u8], call: &Call) -> (Reply, Option<(Answer, Way)>) {
+pub(super) fn ask(
+    session: &mut Session,
+    memory: &mut [u8],
+    call: &Call,
+) -> (Reply, Option<(Answer, Way)>) {
     match call {
         Call::SetRegime(regime) => {
             let refusal = session.set_regime(memory.len(), regime);
@@ -311,7 +317,12 @@ fn ask(session: &mut Session, memory: &mut [u8], call: &Call) -> (Reply, Option<
     }
 }
 
-fn differences(wanted: &Reply, got: &Reply, memory: &[u8], arena: &Arena) -> Vec<String> {
+pub(super) fn differences(
+    wanted: &Reply,
+    got: &Reply,
+    memory: &[u8],
+    arena: &Arena,
+) -> Vec<String> {
     let mut why = Vec::new();
     if got != wanted {
         why.push(format!(

@@ -2,19 +2,23 @@
 //! else may be.
 
 use super::features::{
-    Asked, Before, Effect, Emptying, Feature, Feature as F, Odd, Off, Since, Sum, Switch, Target,
+    Asked, Before, Effect, Emptying, Feature, Feature as F, Foreign, Odd, Off, Since, Sum, Switch,
+    Target,
 };
 use super::play::Bytes;
-use crate::boundary::{plain_answer, CAnswer, Reply, FAULT, REFUSED, SUCCESS};
+use crate::boundary::{
+    plain_answer, CAnswer, CEntry, CSession, Reply, FAULT, REFUSED, SUCCESS, SUM_BITS,
+};
 use crate::counts::{report_families, Counts};
+use crate::decisions::{decided, succeeds};
 use crate::limits::{self, Limit, Octave};
 use crate::reference::{
     bit, look, offset_in_memory, read_descriptor, writable_clean, Access, Answer, FaultKind, Kind,
-    Regime, Walk, AF, AP2, MEMORY_LIMIT, PHYSICAL_LIMIT,
+    Leaf, Regime, Walk, AF, AP2, AP_TABLE_1, MEMORY_LIMIT, PHYSICAL_LIMIT, PXN_TABLE, TAKING,
 };
 use crate::refusals::all_of_set_regime;
 use crate::rule3::{Checked, Class, Event, History};
-use crate::session::{page_of, place_of, Call, Session, Way};
+use crate::session::{page_of, place_of, Call, Held, Session, Way};
 use crate::tally::End;
 use std::collections::{BTreeMap, BTreeSet};
 
@@ -296,12 +300,13 @@ impl Tally {
                 self.meet(F::HitPlace(place_of(page) as u8));
                 self.note_hit(history, session, access, answer);
             }
-            Way::Walked(_) => self.note_emptied(history, page),
+            Way::Walked(walk) => self.note_emptied(history, access, walk),
             Way::WalkedAgain(walk) => {
                 let dirtied = answer.dirtied != 0;
                 self.meet(F::Sum(Sum::Rewalk));
                 self.meet(F::Rewalk(access.kind, end, dirtied));
                 self.note_rewalk(history, walk, dirtied);
+                self.note_rewalk_sum(session, access, walk);
             }
         }
     }
@@ -354,7 +359,7 @@ impl Tally {
 
         let Some(regime) = session.regime else { return };
         let held = session.places[place_of(page)];
-        let clean = held.is_some_and(|held| writable_clean(&regime, held.leaf.descriptor));
+        let clean = held.is_some_and(|held| writable_clean(&regime, &held.leaf));
         if clean && access.kind.changes_data() && answer.tag == FAULT {
             self.meet(F::Odd(Odd::CleanFault));
         }
@@ -362,7 +367,12 @@ impl Tally {
             self.meet(F::Odd(Odd::CleanProbe));
         }
         let event = &events[at];
-        let walk = look(&history.found(event)[..event.lent], &regime, access);
+        let memory = &history.found(event)[..event.lent];
+        let walk = look(memory, &regime, access);
+        if let Some(held) = held {
+            self.note_held_sum(session, &regime, access, &held.leaf, &walk);
+            self.note_hpd(&regime, access, &held, memory);
+        }
         let now = plain_answer(&walk.answer);
         if (CAnswer { reads: 0, ..now }) != *answer {
             let end = match walk.answer {
@@ -374,6 +384,55 @@ impl Tally {
         let different: BTreeSet<u64> = walk.visited.iter().copied().collect();
         if different.len() < walk.visited.len() {
             self.meet(F::Odd(Odd::ReadTwice));
+        }
+    }
+
+    /// A hit: what the held sum decides, and whether a walk would meet it.
+    fn note_held_sum(
+        &mut self,
+        session: &Session,
+        regime: &Regime,
+        access: &Access,
+        leaf: &Leaf,
+        walk: &Walk,
+    ) {
+        for decision in decided(regime, access, leaf) {
+            self.meet(F::HitDecided(decision));
+        }
+        if let Some((now, _)) = walk.leaf {
+            for place in TAKING {
+                let held = bit(leaf.taken, place);
+                if held != bit(now.taken, place) {
+                    self.meet(F::StaleSum(place, held));
+                }
+            }
+        }
+        let other_sum = |other: &Held| {
+            other.leaf.descriptor == leaf.descriptor && other.leaf.taken != leaf.taken
+        };
+        if session.places.iter().flatten().any(other_sum) {
+            self.meet(F::Odd(Odd::TwoSums));
+        }
+        let own = Leaf { taken: 0, ..*leaf };
+        let taken = bit(leaf.taken, AP_TABLE_1) && writable_clean(regime, &own);
+        if taken && access.kind.changes_data() {
+            self.meet(F::Odd(Odd::CleanTaken));
+        }
+    }
+
+    /// A hit with HPD on: would the bits of the tables decide?
+    fn note_hpd(&mut self, regime: &Regime, access: &Access, held: &Held, memory: &[u8]) {
+        let range = usize::from(bit(access.address, 55));
+        if !regime.ranges[range].hpd {
+            return;
+        }
+        let mut counting = *regime;
+        counting.ranges[range].hpd = false;
+        if let Some((now, _)) = look(memory, &counting, access).leaf {
+            let ends = |taken| succeeds(regime, access, &held.leaf, taken);
+            if ends(now.taken) != ends(held.leaf.taken) {
+                self.meet(F::Odd(Odd::HpdOn));
+            }
         }
     }
 
@@ -390,8 +449,18 @@ impl Tally {
         }
     }
 
+    /// A re-walk: the held sum left the writing, does the new one?
+    fn note_rewalk_sum(&mut self, session: &Session, access: &Access, walk: &Walk) {
+        if let (Some(regime), Some((leaf, _))) = (session.regime, walk.leaf) {
+            if decided(&regime, access, &leaf).any(|by| by.bit == AP_TABLE_1) {
+                self.meet(F::Odd(Odd::RewalkTaken));
+            }
+        }
+    }
+
     /// A walk of a page that was held until the last emptying.
-    fn note_emptied(&mut self, history: &History, page: u64) {
+    fn note_emptied(&mut self, history: &History, access: &Access, walk: &Walk) {
+        let page = page_of(access.address);
         let at = history.events().len() - 1;
         let Some(emptying) = history.before(at).last_emptying() else {
             return;
@@ -404,6 +473,78 @@ impl Tally {
                 _ => Emptying::DropAll,
             };
             self.meet(F::Emptied(by));
+            if let (Some(was), Some((now, _))) = (held_sum(history, emptying, access), walk.leaf) {
+                if was != now.taken {
+                    self.meet(F::OtherSum(by));
+                }
+            }
+        }
+    }
+
+    /// Counts a call on a session that began as any bytes, by what it said
+    /// before the call.
+    pub fn note_foreign(
+        &mut self,
+        bytes: &CSession,
+        session: &Session,
+        call: &Call,
+        seen: Option<&(Answer, Way)>,
+    ) {
+        self.calls += 1;
+        let (Call::Access(access), Some((answer, way))) = (call, seen) else {
+            return;
+        };
+        let Some(regime) = session.regime else { return };
+        let page = page_of(access.address);
+        let entry = &bytes.entries[place_of(page)];
+        let rows = all_of_set_regime(0, &regime).filter(|&row| row != 1);
+        match (way, session.places[place_of(page)]) {
+            (Way::Refused, _) => {}
+            (Way::Held, Some(held)) => {
+                rows.for_each(|row| self.meet(F::Foreign(Foreign::Hit(row))));
+                // An entry that no call has filled.
+                if entry.read() == Some(held) {
+                    self.note_foreign_hit(&regime, access, entry, &held.leaf, answer);
+                }
+            }
+            _ => {
+                rows.for_each(|row| self.meet(F::Foreign(Foreign::Walked(row))));
+                if entry.page == page && entry.held != 0 && entry.left > 3 {
+                    self.meet(F::Foreign(Foreign::NoLevel));
+                }
+            }
+        }
+    }
+
+    fn note_foreign_hit(
+        &mut self,
+        regime: &Regime,
+        access: &Access,
+        entry: &CEntry,
+        leaf: &Leaf,
+        answer: &Answer,
+    ) {
+        let range = usize::from(bit(access.address, 55));
+        let ends = |taken| succeeds(regime, access, leaf, taken);
+        self.meet(F::Foreign(Foreign::Sum(entry.tables & SUM_BITS)));
+        let idle = u64::from(entry.tables >> TAKING.len()) << PXN_TABLE;
+        if ends(idle) != ends(leaf.taken) {
+            self.meet(F::Foreign(Foreign::IdleBits));
+        }
+        if regime.ranges[range].hpd && ends(0) != ends(leaf.taken) {
+            self.meet(F::Foreign(Foreign::HpdOn));
+        }
+        if leaf.level == 0 {
+            self.meet(F::Foreign(Foreign::LevelZero));
+        }
+        match answer {
+            Answer::Success(success) if success.accessed => {
+                self.meet(F::Foreign(Foreign::ToldAccessed));
+            }
+            Answer::Fault(fault) if fault.stop.kind == FaultKind::AccessFlag => {
+                self.meet(F::Foreign(Foreign::AccessFlag));
+            }
+            _ => {}
         }
     }
 
@@ -430,6 +571,17 @@ impl Tally {
     pub fn strangers(&self) -> Vec<Feature> {
         self.met.strangers()
     }
+}
+
+/// The sum with which the page of an access was held before an event.
+fn held_sum(history: &History, before: usize, access: &Access) -> Option<u64> {
+    let walked = history
+        .before(before)
+        .last_walk_at(page_of(access.address))?;
+    let regime = history.before(walked).regime()?;
+    let event = &history.events()[walked];
+    let walk = look(&history.left(event)[..event.lent], &regime, access);
+    walk.leaf.map(|(leaf, _)| leaf.taken)
 }
 
 /// A read of one byte of a page.

@@ -291,6 +291,9 @@ pub fn vary(random: &mut Random, home: &Regime) -> Regime {
     let mut other = *home;
     (other.ha, other.hd) = draw_updates(random, 2);
     other.wxn = random.coin();
+    for range in &mut other.ranges {
+        range.hpd ^= random.once_in(3);
+    }
     match random.below(8) {
         0 => other.output_code = random.below(6) as u8,
         1 => other.ranges.swap(0, 1),
@@ -424,6 +427,8 @@ impl World {
         scene.draw_within(random, code, placement, granules, before, behind);
         (scene.regime.ha, scene.regime.hd) = (true, true);
         scene.regime.ranges[0].disabled = false;
+        // So that no table takes the writing away.
+        scene.regime.ranges[0].hpd = true;
         let tree = Tree::draw_at_end(random, &mut scene, 0, Leaves::Mixed);
         let mut pages = Vec::new();
         tree.lay(random, &mut scene, &mut pages);

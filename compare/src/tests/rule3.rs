@@ -1,7 +1,7 @@
 //! Rule 3 on short lists: honest ones keep it, forged ones break it.
 
 use super::{access, start};
-use crate::boundary::{plain_answer, CAnswer, Reply, Spelling, Subject};
+use crate::boundary::{plain_answer, CAnswer, CSession, Reply, Spelling, Subject};
 use crate::reference::{Access, Kind, Regime};
 use crate::rule3::{Class, History};
 use crate::scripts::{run_all, Tally};
@@ -26,6 +26,10 @@ impl Subject for Mirror {
 
     fn invalidate_all(&mut self) {
         self.0.drop_all();
+    }
+
+    fn put(&mut self, bytes: &CSession) {
+        self.0 = bytes.read();
     }
 }
 

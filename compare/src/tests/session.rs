@@ -388,6 +388,32 @@ fn a_regime_that_13_would_refuse_is_used_as_it_is() {
 }
 
 #[test]
+fn a_regime_that_3_or_4_would_refuse_finds_no_table() {
+    // No call leaves such a session either.
+    type Change = fn(&mut Regime);
+    let changes: [Change; 4] = [
+        |regime| regime.output_code = 6,
+        |regime| regime.ranges[1].t = 0,
+        |regime| regime.ranges[0].t = 200,
+        |regime| regime.ranges[1].root = 1 << 48,
+    ];
+    for change in changes {
+        let mut script = Script::new();
+        script.go(Kind::Read);
+        change(&mut script.regime);
+        script.session.regime = Some(script.regime);
+        let before = script.memory.clone();
+        // What is held answers; a write with a mark to make walks.
+        assert_eq!(success(script.go(Kind::Read)).1, 0);
+        assert_eq!(fault(script.go(Kind::Write)), (4, 0, 0));
+        assert_eq!(success(script.go(Kind::Read)).1, 0);
+        script.session.drop_all();
+        assert_eq!(fault(script.go(Kind::Read)), (4, 0, 0));
+        assert_eq!(script.memory, before);
+    }
+}
+
+#[test]
 fn what_empties_the_places() {
     let mut script = Script::new();
     script.go(Kind::Read);
@@ -397,6 +423,7 @@ fn what_empties_the_places() {
         leaf: crate::reference::Leaf {
             descriptor: READ,
             level: 3,
+            taken: 0,
         },
     };
     assert_eq!(script.held(), Some(wanted));

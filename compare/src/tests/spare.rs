@@ -1,12 +1,14 @@
-//! Spare bytes: honest functions pass, and each slip is told.
+//! Spare bytes, and the bits of an entry's `tables` that have no say: honest
+//! functions pass, and each slip is told.
 
 use super::{access, start};
 use crate::boundary::{
     CAccess, CAnswer, CEntry, CRegime, CSession, Library, LibrarySession, SessionFunctions,
-    Spelling, Subject,
+    Spelling, Subject, SUM_BITS,
 };
-use crate::reference::Kind;
+use crate::reference::{Kind, AP_TABLE_1, PXN_TABLE};
 use crate::session::{Call, PLACES};
+use std::mem::offset_of;
 
 const NOISY: Spelling = Spelling {
     noise: 0x1234_5678,
@@ -18,8 +20,19 @@ const EMPTY: CEntry = CEntry {
     value: 0,
     left: 0,
     held: 0,
-    spare: [0; 6],
+    tables: 0,
+    spare: [0; 5],
 };
+
+// Offsets in a session.
+const REGIME_SPARE: usize = offset_of!(CRegime, spare);
+const TABLES: usize = offset_of!(CEntry, tables);
+const ENTRY_SPARE: usize = offset_of!(CEntry, spare);
+
+/// Where an entry begins.
+fn entry(place: usize) -> usize {
+    offset_of!(CSession, entries) + place * size_of::<CEntry>()
+}
 
 // Functions that keep to the spare bytes, and to little else.
 
@@ -30,7 +43,7 @@ unsafe extern "C" fn empty(session: *mut CSession) {
         set: 0,
         spare: [0; 7],
     };
-    (*session).regime.spare = [0; 8];
+    (*session).regime.spare = [0; 6];
 }
 
 unsafe extern "C" fn set(
@@ -114,7 +127,20 @@ unsafe extern "C" fn keep_spare(
     _: *const CAccess,
     answer: *mut CAnswer,
 ) {
-    (*session).entries[3].held = 1;
+    (*session).entries[3].tables = SUM_BITS;
+    (*answer).cacheable = 1;
+    (*answer).reads = 4;
+}
+
+unsafe extern "C" fn keep_idle_bits(
+    session: *mut CSession,
+    _: *mut u8,
+    _: usize,
+    _: *const CAccess,
+    answer: *mut CAnswer,
+) {
+    let tables = (*session).entries[3].tables;
+    (*session).entries[3] = CEntry { tables, ..EMPTY };
     (*answer).cacheable = 1;
     (*answer).reads = 4;
 }
@@ -137,13 +163,24 @@ unsafe extern "C" fn clear_in_store(
     _: u64,
     _: u64,
 ) -> u8 {
-    (*session).entries[0].spare = [0; 6];
+    (*session).entries[0].spare = [0; 5];
+    0
+}
+
+unsafe extern "C" fn clear_idle_bits_in_store(
+    session: *mut CSession,
+    _: *mut u8,
+    _: usize,
+    _: u64,
+    _: u64,
+) -> u8 {
+    (*session).entries[0].tables &= SUM_BITS;
     0
 }
 
 unsafe extern "C" fn drop_all_and_more(session: *mut CSession) {
     drop_all(session);
-    (*session).regime.spare = [0; 8];
+    (*session).regime.spare = [0; 6];
 }
 
 unsafe extern "C" fn answer_but_spare(
@@ -214,26 +251,91 @@ fn slips_of_a_set_regime_are_told() {
         set_regime,
         ..HONEST
     };
-    tells(with(set_spare), call, 56);
-    tells(with(clear_refused), call, 1601);
+    tells(with(set_spare), call, REGIME_SPARE);
+    tells(with(clear_refused), call, offset_of!(CSession, spare));
 }
 
 #[test]
 fn slips_of_an_access_are_told() {
     let with = |access| SessionFunctions { access, ..HONEST };
-    let spare = 64 + 3 * 24 + 18;
-    tells(with(keep_spare), read(), spare);
-    tells(with(fill_on_a_hit), read(), spare);
+    tells(with(keep_spare), read(), entry(3) + ENTRY_SPARE);
+    tells(with(keep_idle_bits), read(), entry(3) + TABLES);
+    tells(with(fill_on_a_hit), read(), entry(3) + TABLES);
 }
 
 #[test]
 fn slips_of_the_others_are_told() {
-    let store = clear_in_store;
-    tells(SessionFunctions { store, ..HONEST }, STORE, 64 + 18);
+    let with = |store| SessionFunctions { store, ..HONEST };
+    tells(with(clear_in_store), STORE, entry(0) + ENTRY_SPARE);
+    tells(with(clear_idle_bits_in_store), STORE, entry(0) + TABLES);
     let invalidate_all = drop_all_and_more;
     let functions = SessionFunctions {
         invalidate_all,
         ..HONEST
     };
-    tells(functions, Call::DropAll, 56);
+    tells(functions, Call::DropAll, REGIME_SPARE);
+}
+
+#[test]
+fn the_offsets_are_those_of_the_interface() {
+    assert_eq!(offset_of!(CRegime, hpd0), 56);
+    assert_eq!(offset_of!(CRegime, hpd1), 57);
+    assert_eq!(REGIME_SPARE, 58);
+    assert_eq!((TABLES, ENTRY_SPARE), (18, 19));
+    assert_eq!(entry(1), 64 + 24);
+}
+
+#[test]
+fn spare_bytes_say_nothing() {
+    let (_, regime) = start();
+    assert_eq!(NOISY.regime(&regime).read(), regime);
+    let held = CEntry {
+        page: 0x403,
+        held: 0x80,
+        tables: 0x88,
+        ..EMPTY
+    };
+    let said = held.read().unwrap();
+    assert_eq!((said.page, said.leaf.level), (0x403, 3));
+    assert_eq!(said.leaf.taken, 1 << AP_TABLE_1);
+    let other = CEntry {
+        tables: 0x78,
+        spare: [1; 5],
+        ..held
+    };
+    assert_eq!(other.read(), Some(said));
+    // A leaf at no level; and one that is not held.
+    assert_eq!(CEntry { left: 4, ..held }.read(), None);
+    assert_eq!(CEntry { held: 0, ..held }.read(), None);
+}
+
+#[test]
+fn another_meaning_is_told() {
+    // SAFETY: as above.
+    let mut session = unsafe { LibrarySession::fresh(HONEST, 7) }.unwrap();
+    let mut bytes = CSession {
+        regime: NOISY.regime(&start().1),
+        entries: [EMPTY; PLACES],
+        set: 1,
+        spare: [0; 7],
+    };
+    bytes.entries[3].held = 1;
+    let wanted = bytes.read();
+    for tables in 0..=0xFF {
+        bytes.entries[3].tables = tables;
+        session.put(&bytes);
+        let told = session.wrong_session(&wanted);
+        assert_eq!(
+            told.is_some(),
+            tables & SUM_BITS != 0,
+            "{tables:#x}: {told:?}"
+        );
+    }
+    bytes.entries[3].tables = 1;
+    assert_eq!(bytes.read().places[3].unwrap().leaf.taken, 1 << PXN_TABLE);
+    bytes.regime.hpd1 = 2;
+    assert!(bytes.read().regime.unwrap().ranges[1].hpd);
+    session.put(&bytes);
+    let told = session.wrong_session(&wanted).unwrap();
+    assert!(told.contains("regime"), "{told}");
 }

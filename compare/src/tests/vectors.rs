@@ -1,7 +1,7 @@
 //! The reader of vectors: what it reads, what it takes for an error, and that
 //! differences are told. The second program stands in for the library.
 
-use crate::boundary::{CAnswer, Spelling, Subject};
+use crate::boundary::{CAnswer, CSession, Spelling, Subject};
 use crate::reference::{Access, Regime};
 use crate::session::Session;
 use crate::vectors::{File, Party, Second};
@@ -99,7 +99,11 @@ fn good_cases_are_held() {
 }
 
 /// The files of the folder `vectors` by name, and the cases that each has.
-const SHIPPED: [(&str, usize); 2] = [("after-q06.txt", 143), ("after-q07.txt", 142)];
+const SHIPPED: [(&str, usize); 3] = [
+    ("after-q02.txt", 134),
+    ("after-q06.txt", 143),
+    ("after-q07.txt", 141),
+];
 
 #[test]
 fn shipped_files_are_held() {
@@ -114,6 +118,28 @@ fn shipped_files_are_held() {
         assert_eq!(file.cases.len(), cases, "{name}");
         assert_eq!(file.hold(&Second).differences, [""; 0]);
     }
+}
+
+/// Bit 61 of the root's first entry, and HPD by its setting or left out.
+#[test]
+fn hpd_may_be_left_out() {
+    let granted = GOOD.lines().find(|line| line.starts_with("answer ok"));
+    let denied = "answer fault code=15 level=3 may=0 reads=4";
+    let taking = GOOD.replacen("bytes 0 03100040", "bytes 0 0310004000000020", 1);
+    for (setting, counts) in [("", true), (" hpd0=0", true), (" hpd0=1", false)] {
+        let mut text = taking.replacen("t0=16", &format!("t0=16{setting}"), 1);
+        if counts {
+            text = text.replacen(granted.unwrap(), denied, 1);
+            text = text.replacen("change 0x3018 4357\n", "", 1);
+        }
+        let report = open(&text).unwrap().hold(&Second).to_string();
+        let told = "made.txt: 2 cases, 11 calls, 0 differences";
+        assert_eq!(report, told, "{setting:?}");
+    }
+    let twice = "setting `hpd0` a second time";
+    refuses("start=0", "hpd0=0 start=0 hpd0=0", twice);
+    let odd = "setting `hpd1`: `2` is no FLAG: 0 or 1";
+    refuses("start=0", "hpd1=2 start=0", odd);
 }
 
 // ------------------------------------------------------------------- errors
@@ -503,6 +529,10 @@ impl<S: Slip> Subject for Slips<S> {
 
     fn invalidate_all(&mut self) {
         self.session.drop_all();
+    }
+
+    fn put(&mut self, bytes: &CSession) {
+        self.session = bytes.read();
     }
 }
 

@@ -1,7 +1,7 @@
 //! Those that are held against the vectors: the library, which `main.rs`
 //! links, and the second program.
 
-use crate::boundary::{plain_answer, CAnswer, Spelling, Subject};
+use crate::boundary::{plain_answer, CAnswer, CSession, Spelling, Subject};
 use crate::reference::{self, Access, Regime};
 use crate::session::Session;
 
@@ -65,5 +65,9 @@ impl Subject for Session {
 
     fn invalidate_all(&mut self) {
         self.drop_all();
+    }
+
+    fn put(&mut self, bytes: &CSession) {
+        *self = bytes.read();
     }
 }

@@ -15,15 +15,21 @@ pub const REGIME: &[Setting<Regime>] = &[
     ("root0", |r, w| put(&mut r.ranges[0].root, w)),
     ("t0", |r, w| put(&mut r.ranges[0].t, w)),
     ("disabled0", |r, w| put(&mut r.ranges[0].disabled, w)),
+    ("hpd0", |r, w| put(&mut r.ranges[0].hpd, w)),
     ("root1", |r, w| put(&mut r.ranges[1].root, w)),
     ("t1", |r, w| put(&mut r.ranges[1].t, w)),
     ("disabled1", |r, w| put(&mut r.ranges[1].disabled, w)),
+    ("hpd1", |r, w| put(&mut r.ranges[1].hpd, w)),
     ("code", |r, w| put(&mut r.output_code, w)),
     ("ha", |r, w| put(&mut r.ha, w)),
     ("hd", |r, w| put(&mut r.hd, w)),
     ("wxn", |r, w| put(&mut r.wxn, w)),
     ("attributes", |r, w| put(&mut r.attributes, w)),
 ];
+
+/// Those that a line may leave out, as older files do: then they are as in
+/// `NO_REGIME`.
+const LATER: [&str; 2] = ["hpd0", "hpd1"];
 
 pub const OK: &[Setting<CAnswer>] = &[
     ("output", |a, w| put(&mut a.output, w)),
@@ -55,6 +61,7 @@ pub const NO_REGIME: Regime = Regime {
         root: 0,
         t: 0,
         disabled: false,
+        hpd: false,
     }; 2],
     output_code: 0,
     ha: false,
@@ -75,7 +82,7 @@ fn put_flag(field: &mut u8, word: &str) -> Result<(), String> {
 }
 
 /// What `to` becomes by the settings of a line: each of the table once, in
-/// any order.
+/// any order, but for those of `LATER`, which may be missing.
 pub fn read<T>(table: &[Setting<T>], mut to: T, line: &Line, words: &[&str]) -> Result<T, Problem> {
     let mut seen: Vec<&str> = Vec::new();
     for setting in words {
@@ -91,8 +98,9 @@ pub fn read<T>(table: &[Setting<T>], mut to: T, line: &Line, words: &[&str]) -> 
         put(&mut to, word).map_err(|what| line.problem(format!("setting `{name}`: {what}")))?;
         seen.push(name);
     }
-    match table.iter().find(|row| !seen.contains(&row.0)) {
-        Some((name, _)) => Err(line.problem(format!("setting `{name}` is missing"))),
+    let due = |name: &&str| !seen.contains(name) && !LATER.contains(name);
+    match table.iter().map(|row| row.0).find(due) {
+        Some(name) => Err(line.problem(format!("setting `{name}` is missing"))),
         None => Ok(to),
     }
 }

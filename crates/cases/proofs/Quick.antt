@@ -3,7 +3,6 @@ use Prim.Native.Nat.{ℕ, _+_, _-_, _%_, _^_}
 use mathlib.Core.Bool.{Bool, true, _&&_}
 use mathlib.Core.List.{List, [], _∷_}
 use lib.Dec.{leb, ltb, eqb}
-use lib.ListN.{length}
 use Rattle.descriptor.specs.Bits.{pick}
 use Rattle.vmsa.specs.Answers.{refused, numberOf}
 use Rattle.vmsa.specs.declared.Regime.{Regime}
@@ -13,9 +12,8 @@ use Rattle.checks.specs.declared.Checked.the-variants.{Accepted, Refused}
 use Rattle.checks.specs.Order.{walkCheck}
 use Rattle.lookup.specs.declared.Word.{Word}
 use Rattle.lookup.specs.declared.Word.the-variants.{Value, Unreachable}
-use Rattle.lookup.specs.Trace.{Trace}
 use Rattle.lookup.specs.Steps.{fetched, locate}
-use Rattle.walk.specs.Walk.{Outcome, concluded}
+use Rattle.walk.specs.Walk.{Outcome, walkAlong}
 use Rattle.cases.specs.Cases.{memoryOf}
 
 -- a descriptor at a multiple of 8, within n bytes, and of 64 bits
@@ -37,10 +35,6 @@ quick n ds base a =
     pick (leb base a && leb (a + 8) (base + n))
     (pick (eqb ((a - base) % 8) 0) (Value (valueAt ds (a - base) 0)) (fetched (memoryOf n ds) base a))
     Unreachable
-
--- the walk over the pool with its trace given
-unfoldable pub walkAlong : Regime → Access → List ℕ → Trace → Outcome
-walkAlong r a pool t = concluded r a pool (length (t .visited)) (t .end)
 
 -- a refusal over this memory, or else this outcome
 abbrev pub unless : List ℕ → Outcome → Checked → Outcome

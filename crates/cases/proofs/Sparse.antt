@@ -22,9 +22,9 @@ use Rattle.checks.specs.Order.{walkCheck}
 use Rattle.lookup.specs.declared.Word.{Word}
 use Rattle.lookup.specs.declared.Word.the-variants.{Value, Unreachable}
 use Rattle.lookup.specs.Steps.{fetched, locate}
-use Rattle.walk.specs.Walk.{Outcome, traced, walkPool, checked, walk}
+use Rattle.walk.specs.Walk.{Outcome, traced, walkAlong, walkPool, checked, walk}
 use Rattle.cases.specs.Cases.{puts, memoryOf}
-use Rattle.cases.proofs.Quick.{placed, allPlaced, valueAt, quick, walkAlong, unless, quickWalk}
+use Rattle.cases.proofs.Quick.{placed, allPlaced, valueAt, quick, unless, quickWalk}
 
 -- ---- a memory of zeros
 
@@ -131,12 +131,12 @@ whole : (m : List ℕ) (w : List ℕ → Outcome) (s l : ℕ) → s ≡ 0 → l 
     → _≡_ {A = Outcome} (record { result = w (take l (drop s m)) .result; bytes = take s m ++ w (take l (drop s m)) .bytes ++ drop (s + l) m }) (w m)
 whole m w s l p q = rw (p, q, take-length m, zero-add (length m), drop-length m, append-nil (w m .bytes))
 
-over-whole : (r : Regime) (a : Access) (m : List ℕ) (c : Checked) → r .pool .start ≡ 0 → r .pool .length ≡ length m → checked r a m c ≡ unless m (walkPool r a m) c
+over-whole : (r : Regime) (a : Access) (m : List ℕ) (c : Checked) → r .pool .start ≡ 0 → r .pool .length ≡ length m → checked (walkPool r a) (r .pool) m c ≡ unless m (walkPool r a m) c
 over-whole r a m (Refused x) s l = refl
 over-whole r a m Accepted s l = whole m (walkPool r a) (r .pool .start) (r .pool .length) s l
 
 along : (r : Regime) (a : Access) (pool : List ℕ) → walkPool r a pool ≡ walkAlong r a pool (locate r (fetched pool (r .pool .address .0)) (a .address .0))
-unfolding walkPool walkAlong traced
+unfolding walkPool traced
 along r a pool = refl
 
 -- the descriptors visited

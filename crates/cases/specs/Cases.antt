@@ -1,12 +1,12 @@
 -- The worked cases P1 to P12 as one table under one claim (RULES 12).
-use Prim.Native.Nat.{ℕ, _*_, _-_}
+use Prim.Native.Nat.{ℕ, _+_, _*_, _-_}
 use mathlib.Core.Bool.{Bool, true, false}
 use mathlib.Core.List.{List, [], _∷_, _++_}
 use mathlib.Core.Path.{_≡_}
 use lib.ListN.{replicate}
 use Rattle.descriptor.specs.Bytes.{bytesOf, put}
 use Rattle.vmsa.specs.Answers.{Result, success, fault, refused}
-use Rattle.vmsa.specs.Settings.{disabledRange, withPool, withRange0, withOutput, withHa, withHd, withWxn, withAttributes}
+use Rattle.vmsa.specs.Settings.{disabledRange, withPool, withRange0, withHpd0, withHpd1, withOutput, withHa, withHd, withWxn, withAttributes}
 use Rattle.vmsa.specs.declared.Regime.{Regime}
 use Rattle.vmsa.specs.declared.Pool.{Pool}
 use Rattle.vmsa.specs.declared.Range.{Range}
@@ -30,7 +30,7 @@ workedPool n = record { start = 0; length = n; address = record { 0 = poolAddres
 
 -- either range
 abbrev pub range : Range
-range = record { root = record { 0 = poolAddress }; tsz = 16; disabled = false }
+range = record { root = record { 0 = poolAddress }; tsz = 16; disabled = false; hpd = false }
 
 -- eight attribute bytes, all alike
 abbrev pub eight : ℕ → ℕ
@@ -59,6 +59,10 @@ access address size kind = record { address = record { 0 = address }; size = siz
 abbrev pub usual : AccessKind → Access
 usual kind = access 0x403ABC 4 kind
 
+-- the same access from EL1
+abbrev pub fromEl1 : Access → Access
+fromEl1 a = record { address = a .address; size = a .size; el0 = false; kind = a .kind }
+
 -- a descriptor at a physical address, as its offset in the pool and its value
 abbrev pub stored : ℕ → ℕ → ℕ × ℕ
 stored address value = (address - poolAddress, value)
@@ -66,9 +70,12 @@ stored address value = (address - poolAddress, value)
 abbrev pub leafAddress : ℕ
 leafAddress = 0x40003018
 
--- the four descriptors, given the third and the leaf
+-- the four descriptors, given each; and given the third and the leaf
+abbrev pub descriptors : ℕ → ℕ → ℕ → ℕ → List (ℕ × ℕ)
+descriptors first second third leaf = stored 0x40000000 first ∷ stored 0x40001000 second ∷ stored 0x40002010 third ∷ stored leafAddress leaf ∷ []
+
 abbrev pub tablesWith : ℕ → ℕ → List (ℕ × ℕ)
-tablesWith third leaf = stored 0x40000000 0x40001003 ∷ stored 0x40001000 0x40002003 ∷ stored 0x40002010 third ∷ stored leafAddress leaf ∷ []
+tablesWith third leaf = descriptors 0x40001003 0x40002003 third leaf
 
 -- the leaf, and it with the Access flag set, and with AP[2] cleared too
 abbrev pub leaf : ℕ
@@ -89,6 +96,17 @@ withThird v = tablesWith v leaf
 
 abbrev pub tables : List (ℕ × ℕ)
 tables = withLeaf leaf
+
+-- a leaf of EL1 alone, from which both levels may fetch, and it with the Access flag set
+abbrev pub kernelLeaf : ℕ
+kernelLeaf = 0x0008000080005383
+
+abbrev pub accessedKernelLeaf : ℕ
+accessedKernelLeaf = 0x0008000080005783
+
+-- the four descriptors under a second table with bits 63 to 59 as in this digit and a half, and with this leaf
+abbrev pub underSecond : ℕ → ℕ → List (ℕ × ℕ)
+underSecond bits v = descriptors 0x40001003 (bits * 0x0800000000000000 + 0x40002003) 0x40003003 v
 
 -- a memory with these descriptors put at their offsets
 unfoldable pub puts : List ℕ → List (ℕ × ℕ) → List ℕ
@@ -197,6 +215,28 @@ rows =
     -- the same of the longest pool
     ∷ row longest (access 0x5FFABC 4 Write) (withThird 0x400FF003 ++ stored 0x400FFFF8 leaf ∷ []) (passed 0x80005ABC true true true) (stored 0x400FFFF8 dirtyLeaf ∷ [])
     ∷ row longest (access 0x400ABC 4 Write) (withThird 0x40100003) (failed 23 3 false 4) []
+    -- P2's write under bit 62 of the second table; with HPD on for its range it is P2's, and the other range's has no say
+    ∷ row base (usual Write) (underSecond 0b01000 leaf) (failed 15 3 false 4) []
+    ∷ row (withHpd0 base true) (usual Write) (underSecond 0b01000 leaf) (passed 0x80005ABC true true true) (leafNow dirtyLeaf)
+    ∷ row (withHpd1 base true) (usual Write) (underSecond 0b01000 leaf) (failed 15 3 false 4) []
+    -- a read under bit 61, by EL0 and by EL1
+    ∷ row base (usual Read) (underSecond 0b00100 leaf) (failed 15 3 false 4) []
+    ∷ row base (fromEl1 (usual Read)) (underSecond 0b00100 leaf) (passed 0x80005ABC true false true) (leafNow accessedLeaf)
+    -- a fetch under bit 60 (UXN) and under bit 59 (PXN), by EL0 and by EL1
+    ∷ row base (usual Fetch) (underSecond 0b00010 kernelLeaf) (failed 15 3 false 4) []
+    ∷ row base (fromEl1 (usual Fetch)) (underSecond 0b00010 kernelLeaf) (passed 0x80005ABC true false true) (leafNow accessedKernelLeaf)
+    ∷ row base (usual Fetch) (underSecond 0b00001 kernelLeaf) (passed 0x80005ABC true false true) (leafNow accessedKernelLeaf)
+    ∷ row base (fromEl1 (usual Fetch)) (underSecond 0b00001 kernelLeaf) (failed 15 3 false 4) []
+    -- where EL0 may write EL1 may not fetch; under bit 61 or 62 of a table EL0 may not, and EL1 may
+    ∷ row base (fromEl1 (usual Fetch)) tables (failed 15 3 false 4) []
+    ∷ row base (fromEl1 (usual Fetch)) (underSecond 0b00100 leaf) (passed 0x80005ABC true false true) (leafNow accessedLeaf)
+    ∷ row base (fromEl1 (usual Fetch)) (underSecond 0b01000 leaf) (passed 0x80005ABC true false true) (leafNow accessedLeaf)
+    -- UXN from the first table and PXN from the third add up
+    ∷ row base (usual Fetch) (descriptors 0x1000000040001003 0x40002003 0x0800000040003003 kernelLeaf) (failed 15 3 false 4) []
+    ∷ row base (fromEl1 (usual Fetch)) (descriptors 0x1000000040001003 0x40002003 0x0800000040003003 kernelLeaf) (failed 15 3 false 4) []
+    -- bit 63 of a table has no say, and a leaf's own bits 63 to 59 have none
+    ∷ row base (usual Write) (underSecond 0b10000 leaf) (passed 0x80005ABC true true true) (leafNow dirtyLeaf)
+    ∷ row base (usual Write) (withLeaf 0xF8080000800053C3) (passed 0x80005ABC true true true) (leafNow 0xF808000080005743)
     ∷ []
 
 -- the descriptor addresses that the usual access visits, in order

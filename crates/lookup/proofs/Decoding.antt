@@ -10,6 +10,7 @@ use borrow.Author.Tests.{eqb-true, eqb-false, leb-true, leb-false}
 use Rattle.descriptor.specs.Bits.{pick, bit}
 use Rattle.descriptor.proofs.Tests.{clash, and-true, or-false, differ, pick-both}
 use Rattle.vmsa.specs.Limits.{addressLimit}
+use Rattle.vmsa.specs.Fields.{tableBits}
 use Rattle.geometry.specs.Geometry.{pageSize, shiftOf, span, blockAt, cut, Paged}
 use Rattle.geometry.proofs.Geometry.{cut-lt, shift-least}
 use Rattle.vmsa.specs.declared.PhysAddr.{PhysAddr}
@@ -147,11 +148,12 @@ address-same p left v w h b e =
     rw b
     (pick-both (λ (s : ℕ). cut v s ≡ cut w s) (bit 1 w && not (eqb left 0)) (2 ^ p) (2 ^ shiftOf p left) (cut-same v w p h e) (cut-same v w (shiftOf p left) (shift-least p left h) e))
 
--- descriptors that agree in bits 1 and 0 and in bits 47 to 12 decode alike
+-- descriptors that agree in bits 1 and 0 and in bits 47 to 12 decode alike, and as tables those that agree in bits 62 to 59 too say the same
 pub record Alike (v w : ℕ) : Type 0 where
   pub bit0 : bit 0 v ≡ bit 0 w
   pub bit1 : bit 1 v ≡ bit 1 w
   pub address : v % addressLimit / 4096 ≡ w % addressLimit / 4096
+  pub tables : tableBits v ≡ tableBits w
 
 pub decoded-same : (p limit left v w : ℕ) → 12 ≤ p → Alike v w → decoded p limit left v ≡ decoded p limit left w
 unfolding decoded invalid isTable

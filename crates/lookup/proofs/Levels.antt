@@ -1,15 +1,15 @@
--- One level of the lookup as the code hands it on, n reads having gone before; and steps 1 and 2.
+-- One level of the lookup as the code hands it on; and steps 1 and 2.
 use Prim.Native.Nat.{ℕ, suc, _+_, _-_, _%_, _^_, _<_, _≤_}
 use mathlib.Core.Bool.{true, false, not, _||_}
-use mathlib.Core.Path.{_≡_, ap}
-use native.Mathlib.Nat.{add-zero, pos-of-ne-zero}
+use mathlib.Core.Path.{_≡_}
+use native.Mathlib.Nat.{pos-of-ne-zero}
 use native.Mathlib.Omega.{arith}
 use lib.Dec.{eqb}
-use lib.ListN.{length}
 use borrow.Author.Tests.{eqb-false, not-true, le-leb, lt-leb}
 use Rattle.descriptor.specs.Bits.{bit}
 use Rattle.descriptor.proofs.Tests.{and-true}
 use Rattle.vmsa.specs.Limits.{pageBits}
+use Rattle.vmsa.specs.Fields.{withTable}
 use Rattle.geometry.specs.Geometry.{levelOf, firstLeft, outputLimit}
 use Rattle.vmsa.specs.declared.Regime.{Regime}
 use Rattle.vmsa.specs.declared.Range.{Range}
@@ -20,9 +20,9 @@ use Rattle.lookup.specs.declared.Word.{Word}
 use Rattle.lookup.specs.declared.Word.the-variants.{Value, Unreachable}
 use Rattle.lookup.specs.declared.Next.the-variants as next
 use Rattle.lookup.specs.declared.Context.{Context}
-use Rattle.lookup.specs.Trace.{fault, Trace, ended}
-use Rattle.lookup.specs.Steps.{isTable, decoded, followed, context, entryAt, entered, descend, rangeOf, outside, contextOf, locate}
-use Rattle.lookup.specs.Packing.{kindNumber, leafNumber, joined, packedEnd, packed}
+use Rattle.lookup.specs.Trace.{fault, Trace, ended, counted}
+use Rattle.lookup.specs.Steps.{isTable, decoded, followed, context, entryAt, entered, descend, rangeOf, outside, contextOf, noTables, locate}
+use Rattle.lookup.specs.Packing.{kindNumber, leafNumber, joined, packed}
 
 -- a table has a level below it
 pub table-left : (left v : ℕ) → isTable left v ≡ true → 0 < left
@@ -32,35 +32,30 @@ table-left left v e = pos-of-ne-zero (eqb-false left 0 (not-true (eqb left 0) (a
 pub down-up : (left : ℕ) → 0 < left → suc (left - 1) ≡ left
 down-up left h = omega arith
 
-more : (n k : ℕ) → n + suc k ≡ n + 1 + k
-more n k = omega arith
-
-module _ (c : Context) (below : ℕ → Trace) (left a v n : ℕ) where
+module _ (c : Context) (below : ℕ → ℕ → Trace) (sum left a v : ℕ) where
   pub fault-packed : (kind : FaultKind) → decoded (c .page) (c .limit .0) left v ≡ next.Fault kind
-      → packed n (followed c below left a v) ≡ joined n (levelOf left) (kindNumber kind) 0
+      → packed (followed c below sum left a v) ≡ joined (levelOf left) (kindNumber kind) 0 0
   unfolding packed followed
-  fault-packed kind e = rw (e, add-zero n)
+  fault-packed kind e = rw e
 
-  pub table-packed : (table : PhysAddr) → decoded (c .page) (c .limit .0) left v ≡ next.Table table → packed n (followed c below left a v) ≡ packed n (below (table .0))
+  pub table-packed : (table : PhysAddr) → decoded (c .page) (c .limit .0) left v ≡ next.Table table → packed (followed c below sum left a v) ≡ packed (below (withTable sum v) (table .0))
   unfolding followed
   table-packed table e = rw e
 
-  pub leaf-packed : decoded (c .page) (c .limit .0) left v ≡ next.Leaf → packed n (followed c below left a v) ≡ joined n (levelOf left) leafNumber a
+  pub leaf-packed : decoded (c .page) (c .limit .0) left v ≡ next.Leaf → packed (followed c below sum left a v) ≡ joined (levelOf left) leafNumber sum a
   unfolding packed followed
-  leaf-packed e = rw (e, add-zero n)
+  leaf-packed e = rw e
 
-module _ (c : Context) (read : ℕ → Word) (left table n : ℕ) where
+module _ (c : Context) (read : ℕ → Word) (left sum table : ℕ) where
   pub abort-packed : read (entryAt c left table) ≡ Unreachable
-      → packed n (descend c read (suc left) table) ≡ joined (n + 1) (levelOf left) (kindNumber ExternalAbort) 0
+      → packed (descend c read (suc left) sum table) ≡ joined (levelOf left) (kindNumber ExternalAbort) 0 0
   unfolding packed descend entered
   abort-packed e = rw e
 
   pub value-packed : (v : ℕ) → read (entryAt c left table) ≡ Value v
-      → packed n (descend c read (suc left) table) ≡ packed (n + 1) (followed c (descend c read left) left (entryAt c left table) v)
+      → packed (descend c read (suc left) sum table) ≡ packed (followed c (descend c read left) sum left (entryAt c left table) v)
   unfolding packed descend entered
-  value-packed v e =
-      let t = followed c (descend c read left) left (entryAt c left table) v in
-      rw e (ap (λ (k : ℕ). packedEnd k (t .end)) (more n (length (t .visited))))
+  value-packed v e = rw e
 
 -- ---- steps 1 and 2, from what the code computed of them
 
@@ -77,7 +72,7 @@ module _ (r : Regime) (read : ℕ → Word) (a : ℕ) (range : Range) (e : range
   pub locate-go : (range .disabled || outside (range .tsz) a) ≡ false → (limit power left : ℕ) → limit ≡ outputLimit (r .output) → range .root .0 < limit
       → power ≡ 2 ^ (64 - range .tsz) → left ≡ firstLeft pageBits (range .tsz)
       → (c : Context) → c ≡ context (r .pool .address) (record { 0 = limit }) (record { 0 = a % power }) pageBits
-      → locate r read a ≡ descend c read (suc left) (range .root .0)
+      → locate r read a ≡ counted (range .hpd) (descend c read (suc left) noTables (range .root .0))
   unfolding locate contextOf
   locate-go h limit power left el q ep ef c ec =
       let h2 : (rangeOf r a .disabled || outside (rangeOf r a .tsz) a) ≡ false = rw e at h in

@@ -4,3 +4,4 @@ pub mod Reach
 pub mod Packing
 pub mod Readers
 pub mod Page
+pub mod Sums

@@ -14,8 +14,8 @@ use Rattle.vmsa.specs.declared.PhysAddr.{PhysAddr}
 use Rattle.vmsa.specs.declared.FaultKind.the-variants.{ExternalAbort, Translation, AddressSize}
 use Rattle.lookup.specs.declared.Word.{Word}
 use Rattle.lookup.specs.declared.Context.{Context}
-use Rattle.lookup.specs.Trace.{fault, Trace, ended, visit}
-use Rattle.lookup.specs.Steps.{onWord, followed, entryAt, entered, descend, upper, rangeOf, outside, contextOf, locate}
+use Rattle.lookup.specs.Trace.{fault, Trace, ended, visit, counted}
+use Rattle.lookup.specs.Steps.{onWord, followed, entryAt, entered, descend, upper, rangeOf, outside, contextOf, noTables, locate}
 
 -- a cut at bit n above the page bits sees the page alone
 cut-page : (a b n : ℕ) → 12 ≤ n → a / 4096 ≡ b / 4096 → a / 2 ^ n ≡ b / 2 ^ n
@@ -40,15 +40,15 @@ module _ (base limit : PhysAddr) (p : ℕ) (least : 12 ≤ p) where
   unfolding entryAt span shiftOf
   entry-page i j left t e = ap (λ (x : ℕ). t + 8 * (x % 2 ^ strideBits p)) (cut-page i j (p + (p - 3) * left) (omega arith) e)
 
-  descend-page : (read : ℕ → Word) (i j : ℕ) → i / 4096 ≡ j / 4096 → (n t : ℕ) → descend (with-input i) read n t ≡ descend (with-input j) read n t
+  descend-page : (read : ℕ → Word) (i j : ℕ) → i / 4096 ≡ j / 4096 → (n s t : ℕ) → descend (with-input i) read n s t ≡ descend (with-input j) read n s t
   unfolding descend entered followed
-  descend-page read i j e zero t = refl
-  descend-page read i j e (suc n) t =
-      let below : descend (with-input i) read n ≡ descend (with-input j) read n = fun-ext (descend-page read i j e n) in
-      ap (λ (f : ℕ → Trace). entered (with-input i) read f n t) below ∙ same (descend (with-input j) read n)
+  descend-page read i j e zero s t = refl
+  descend-page read i j e (suc n) s t =
+      let below : descend (with-input i) read n ≡ descend (with-input j) read n = fun-ext (λ u. fun-ext (descend-page read i j e n u)) in
+      ap (λ (f : ℕ → ℕ → Trace). entered (with-input i) read f n s t) below ∙ same (descend (with-input j) read n)
     where
-      same : (f : ℕ → Trace) → entered (with-input i) read f n t ≡ entered (with-input j) read f n t
-      same f = ap (λ (x : ℕ). visit x (onWord (ended (fault ExternalAbort (levelOf n))) (followed (with-input j) f n x) (read x))) (entry-page i j n t e)
+      same : (f : ℕ → ℕ → Trace) → entered (with-input i) read f n s t ≡ entered (with-input j) read f n s t
+      same f = ap (λ (x : ℕ). visit x (onWord (ended (fault ExternalAbort (levelOf n))) (followed (with-input j) f s n x) (read x))) (entry-page i j n t e)
 
 -- ---- steps 1 to 5
 
@@ -67,14 +67,16 @@ module _ (r : Regime) (a b : ℕ) (e : a / 4096 ≡ b / 4096) where
 
   descent : Range → (ℕ → Word) → ℕ → Trace
   descent range read x =
-      descend (record { base = r .pool .address; limit = record { 0 = outputLimit (r .output) }; input = record { 0 = x % 2 ^ (64 - range .tsz) }; page = pageBits }) read (suc (firstLeft pageBits (range .tsz)))
-      (range .root .0)
+      counted (range .hpd)
+      (descend (record { base = r .pool .address; limit = record { 0 = outputLimit (r .output) }; input = record { 0 = x % 2 ^ (64 - range .tsz) }; page = pageBits }) read (suc (firstLeft pageBits (range .tsz))) noTables
+      (range .root .0))
 
   descent-page : (range : Range) (read : ℕ → Word) → range .tsz ≤ tszMost → descent range read a ≡ descent range read b
   unfolding descent
   descent-page range read h =
-      descend-page (r .pool .address) (record { 0 = outputLimit (r .output) }) pageBits (omega arith) read (a % 2 ^ (64 - range .tsz)) (b % 2 ^ (64 - range .tsz))
-      (mod-page a b (64 - range .tsz) (omega arith) e) (suc (firstLeft pageBits (range .tsz))) (range .root .0)
+      ap (counted (range .hpd))
+      (descend-page (r .pool .address) (record { 0 = outputLimit (r .output) }) pageBits (omega arith) read (a % 2 ^ (64 - range .tsz)) (b % 2 ^ (64 - range .tsz))
+      (mod-page a b (64 - range .tsz) (omega arith) e) (suc (firstLeft pageBits (range .tsz))) noTables (range .root .0))
 
   opened : (read : ℕ → Word) (x : ℕ) (range : Range) → rangeOf r x ≡ range
       → locate r read x

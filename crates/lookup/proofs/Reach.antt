@@ -1,16 +1,20 @@
 -- Facts of any lookup, over any reader: how many descriptors it visits, and what holds of a leaf that it reaches.
-use Prim.Native.Nat.{ℕ, zero, suc, _+_, _-_, _%_, _≤_, zero-le, suc-le-suc}
+use Prim.Native.Nat.{ℕ, zero, suc, _+_, _-_, _%_, _≤_, _<_, zero-le, suc-le-suc}
 use mathlib.Core.Bool.{Bool, true, false, _&&_, _||_}
 use mathlib.Core.List.{List, _∷_}
 use mathlib.Core.Path.{_≡_, refl, subst}
+use native.Mathlib.Nat.{zero-add}
 use native.Mathlib.Omega.{arith}
-use lib.Dec.{leb, lit≤}
+use lib.Dec.{leb, lit≤, lit<}
 use lib.ListN.{length}
 use borrow.Author.Tests.{leb-true}
 use Rattle.descriptor.specs.Bytes.{desc}
 use Rattle.descriptor.specs.Bits.{pick}
 use Rattle.descriptor.proofs.Tests.{clash, and-true, pick-both}
 use Rattle.vmsa.specs.Limits.{pageBits, tszLeast, Sized}
+use Rattle.vmsa.specs.Fields.{withTable}
+use Rattle.vmsa.proofs.Tables.{sum-below}
+use Rattle.vmsa.specs.declared.Leaf.{Leaf}
 use Rattle.geometry.specs.Geometry.{levelOf, firstLeft, outputLimit, Paged}
 use Rattle.geometry.proofs.Geometry.{paged, first-le}
 use Rattle.vmsa.specs.declared.Regime.{Regime}
@@ -22,29 +26,60 @@ use Rattle.lookup.specs.declared.Word.the-variants.{Value, Unreachable}
 use Rattle.lookup.specs.declared.Next.{Next}
 use Rattle.lookup.specs.declared.Next.the-variants as next
 use Rattle.lookup.specs.declared.Context.{Context}
-use Rattle.lookup.specs.Trace.{End, fault, leaf, Trace, ended}
-use Rattle.lookup.specs.Steps.{decoded, fetched, onward, onWord, followed, entryAt, entered, descend, upper, rangeOf, outside, contextOf, locate}
-use Rattle.lookup.specs.Packing.{Backed}
+use Rattle.lookup.specs.Trace.{End, fault, leaf, Trace, ended, countedEnd, counted}
+use Rattle.lookup.specs.Steps.{decoded, fetched, onward, onWord, followed, entryAt, entered, descend, upper, rangeOf, outside, contextOf, noTables, locate}
+use Rattle.lookup.specs.Packing.{endLevel, Backed}
 use Rattle.lookup.proofs.Decoding.{is-table, aligned8}
 
 -- ---- the length of the visited list
 
-visited-onward : (n : ℕ) (below : ℕ → Trace) (left a v : ℕ) → ((t : ℕ) → length (below t .visited) ≤ n) → (x : Next) → length (onward below left a v x .visited) ≤ n
-visited-onward n below left a v h (next.Fault kind) = zero-le
-visited-onward n below left a v h (next.Table table) = h (table .0)
-visited-onward n below left a v h next.Leaf = zero-le
+visited-onward : (n : ℕ) (below : ℕ → ℕ → Trace) (sum left a v : ℕ) → ((s t : ℕ) → length (below s t .visited) ≤ n) → (x : Next) → length (onward below sum left a v x .visited) ≤ n
+visited-onward n below sum left a v h (next.Fault kind) = zero-le
+visited-onward n below sum left a v h (next.Table table) = h (withTable sum v) (table .0)
+visited-onward n below sum left a v h next.Leaf = zero-le
 
 visited-word : (n : ℕ) (z : Trace) (f : ℕ → Trace) → length (z .visited) ≤ n → ((v : ℕ) → length (f v .visited) ≤ n) → (w : Word) → length (onWord z f w .visited) ≤ n
 visited-word n z f hz hf (Value v) = hf v
 visited-word n z f hz hf Unreachable = hz
 
-pub descend-visited : (c : Context) (read : ℕ → Word) (n t : ℕ) → length (descend c read n t .visited) ≤ n
+pub descend-visited : (c : Context) (read : ℕ → Word) (n s t : ℕ) → length (descend c read n s t .visited) ≤ n
 unfolding descend entered followed
-descend-visited c read zero t = zero-le
-descend-visited c read (suc n) t =
+descend-visited c read zero s t = zero-le
+descend-visited c read (suc n) s t =
     suc-le-suc
-    (visited-word n (ended (fault ExternalAbort (levelOf n))) (followed c (descend c read n) n (entryAt c n t)) zero-le
-    (λ v. visited-onward n (descend c read n) n (entryAt c n t) v (descend-visited c read n) (decoded (c .page) (c .limit .0) n v)) (read (entryAt c n t)))
+    (visited-word n (ended (fault ExternalAbort (levelOf n))) (followed c (descend c read n) s n (entryAt c n t)) zero-le
+    (λ v. visited-onward n (descend c read n) s n (entryAt c n t) v (descend-visited c read n) (decoded (c .page) (c .limit .0) n v)) (read (entryAt c n t)))
+
+-- one descriptor is visited at each level: k of them from level 3 - n on, up to the level of the end
+Counts : ℕ → Trace → Type 0
+Counts n t = length (t .visited) + levelOf n ≡ endLevel (t .end)
+
+counts-onward : (below : ℕ → ℕ → Trace) (sum left a v : ℕ) → ((s t : ℕ) → Counts left (below s t)) → (x : Next) → Counts left (onward below sum left a v x)
+unfolding Counts
+counts-onward below sum left a v h (next.Fault kind) = zero-add (levelOf left)
+counts-onward below sum left a v h (next.Table table) = h (withTable sum v) (table .0)
+counts-onward below sum left a v h next.Leaf = zero-add (levelOf left)
+
+counts-word : (n : ℕ) (z : Trace) (f : ℕ → Trace) → Counts n z → ((v : ℕ) → Counts n (f v)) → (w : Word) → Counts n (onWord z f w)
+counts-word n z f hz hf (Value v) = hf v
+counts-word n z f hz hf Unreachable = hz
+
+-- what follows the read of a level
+read-counts : (c : Context) (read : ℕ → Word) (below : ℕ → ℕ → Trace) (n s t : ℕ) → ((x u : ℕ) → Counts n (below x u))
+    → Counts n (onWord (ended (fault ExternalAbort (levelOf n))) (followed c below s n (entryAt c n t)) (read (entryAt c n t)))
+unfolding Counts followed
+read-counts c read below n s t h =
+    counts-word n (ended (fault ExternalAbort (levelOf n))) (followed c below s n (entryAt c n t)) (zero-add (levelOf n))
+    (λ v. counts-onward below s n (entryAt c n t) v h (decoded (c .page) (c .limit .0) n v)) (read (entryAt c n t))
+
+descend-counts : (c : Context) (read : ℕ → Word) (n s t : ℕ) → n ≤ 3 → Counts n (descend c read n s t)
+unfolding Counts descend entered levelOf
+descend-counts c read zero s t h = omega arith
+descend-counts c read (suc n) s t h = let k = read-counts c read (descend c read n) n s t (λ x u. descend-counts c read n x u (omega arith)) in omega arith
+
+pub descend-reads : (c : Context) (read : ℕ → Word) (n s t : ℕ) → n ≤ 3 → length (descend c read (suc n) s t .visited) + levelOf n ≡ suc (endLevel (descend c read (suc n) s t .end))
+unfolding Counts descend entered
+descend-reads c read n s t h = let k = read-counts c read (descend c read n) n s t (λ x u. descend-counts c read n x u h) in omega arith
 
 range-least : (r : Regime) (a : ℕ) → Sized r → tszLeast ≤ rangeOf r a .tsz
 unfolding rangeOf
@@ -60,11 +95,11 @@ unfolding locate
 locate-visited r read a z =
     let range = rangeOf r a in
     let c = contextOf r a in
-    let deep = descend c read (suc (firstLeft pageBits (range .tsz))) (range .root .0) in
+    let deep = counted (range .hpd) (descend c read (suc (firstLeft pageBits (range .tsz))) noTables (range .root .0)) in
     let short : Trace → Type 0 = λ t. length (t .visited) ≤ 4 in
     let beyond = leb (outputLimit (r .output)) (range .root .0) in
     let h : length (deep .visited) ≤ 4 =
-    (let v = descend-visited c read (suc (firstLeft pageBits (range .tsz))) (range .root .0) in
+    (let v = descend-visited c read (suc (firstLeft pageBits (range .tsz))) noTables (range .root .0) in
     let f = first-le pageBits (range .tsz) paged (range-least r a z) in
     omega arith) in
     pick-both short (range .disabled || outside (range .tsz) a) (ended (fault Translation 0)) (pick beyond (ended (fault AddressSize 0)) deep) zero-le
@@ -73,22 +108,22 @@ locate-visited r read a z =
 -- a leaf takes a read
 abbrev ReadOnce : Trace → End → Type 0
 ReadOnce t (fault kind level) = Unit {0}
-ReadOnce t (leaf a v left) = 1 ≤ length (t .visited)
+ReadOnce t (leaf a l) = 1 ≤ length (t .visited)
 
-read-once : (c : Context) (read : ℕ → Word) (n t : ℕ) → ReadOnce (descend c read (suc n) t) (descend c read (suc n) t .end)
+read-once : (c : Context) (read : ℕ → Word) (hpd : Bool) (n s t : ℕ) → ReadOnce (counted hpd (descend c read (suc n) s t)) (counted hpd (descend c read (suc n) s t) .end)
 unfolding descend entered
-read-once c read n t = by (onWord (ended (fault ExternalAbort (levelOf n))) (followed c (descend c read n) n (entryAt c n t)) (read (entryAt c n t)))
+read-once c read hpd n s t = by (onWord (ended (fault ExternalAbort (levelOf n))) (followed c (descend c read n) s n (entryAt c n t)) (read (entryAt c n t)))
   where
-    by-end : (l : List ℕ) (e : End) → ReadOnce (record { visited = entryAt c n t ∷ l; end = e }) e
+    by-end : (l : List ℕ) (e : End) → ReadOnce (record { visited = entryAt c n t ∷ l; end = countedEnd hpd e }) (countedEnd hpd e)
     by-end l (fault kind level) = tt
-    by-end l (leaf a v left) = suc-le-suc zero-le
+    by-end l (leaf a x) = suc-le-suc zero-le
 
-    by : (u : Trace) → ReadOnce (record { visited = entryAt c n t ∷ u .visited; end = u .end }) (u .end)
+    by : (u : Trace) → ReadOnce (record { visited = entryAt c n t ∷ u .visited; end = countedEnd hpd (u .end) }) (countedEnd hpd (u .end))
     by u = by-end (u .visited) (u .end)
 
-pub locate-read : (r : Regime) (read : ℕ → Word) (a : ℕ) {at v left : ℕ} → locate r read a .end ≡ leaf at v left → 1 ≤ length (locate r read a .visited)
+pub locate-read : (r : Regime) (read : ℕ → Word) (a : ℕ) {at : ℕ} {l : Leaf} → locate r read a .end ≡ leaf at l → 1 ≤ length (locate r read a .visited)
 unfolding locate
-locate-read r read a {at} {v} {left} q = subst (ReadOnce (locate r read a)) q (once r read a)
+locate-read r read a {at} {l} q = subst (ReadOnce (locate r read a)) q (once r read a)
   where
     picked : (off beyond : Bool) (t : Trace) → ReadOnce t (t .end)
         → ReadOnce (pick off (ended (fault Translation 0)) (pick beyond (ended (fault AddressSize 0)) t)) (pick off (ended (fault Translation 0)) (pick beyond (ended (fault AddressSize 0)) t) .end)
@@ -100,87 +135,106 @@ locate-read r read a {at} {v} {left} q = subst (ReadOnce (locate r read a)) q (o
     once r read a =
         let range = rangeOf r a in
         picked (range .disabled || outside (range .tsz) a) (leb (outputLimit (r .output)) (range .root .0))
-        (descend (contextOf r a) read (suc (firstLeft pageBits (range .tsz))) (range .root .0)) (read-once (contextOf r a) read (firstLeft pageBits (range .tsz)) (range .root .0))
+        (counted (range .hpd) (descend (contextOf r a) read (suc (firstLeft pageBits (range .tsz))) noTables (range .root .0))) (read-once (contextOf r a) read (range .hpd) (firstLeft pageBits (range .tsz)) noTables (range .root .0))
 
 -- ---- a leaf that is reached
 
--- it was read at that address, says that it is a leaf there, and lies at a multiple of 8
-pub record Reached (c : Context) (read : ℕ → Word) (a v left : ℕ) : Type 0 where
-  pub value : read a ≡ Value v
-  pub leads : decoded (c .page) (c .limit .0) left v ≡ next.Leaf
-  pub low : left ≤ 3
+-- it was read at that address, says that it is a leaf there, and lies at a multiple of 8; its sum has four bits
+pub record Reached (c : Context) (read : ℕ → Word) (a : ℕ) (l : Leaf) : Type 0 where
+  pub value : read a ≡ Value (l .value)
+  pub leads : decoded (c .page) (c .limit .0) (l .left) (l .value) ≡ next.Leaf
+  pub low : l .left ≤ 3
+  pub few : l .tables < 16
   pub aligned : a % 8 ≡ 0
 
 abbrev pub Good : Context → (ℕ → Word) → End → Type 0
 Good c read (fault kind level) = Unit {0}
-Good c read (leaf a v left) = Reached c read a v left
+Good c read (leaf a l) = Reached c read a l
 
 pub entry-aligned : (c : Context) (left t : ℕ) → t % 8 ≡ 0 → entryAt c left t % 8 ≡ 0
 unfolding entryAt
 entry-aligned c left t e = omega arith
 
--- what holds of every end, where T holds of every table's address
-module _ (c : Context) (read : ℕ → Word) (T : ℕ → Type 0) (E : End → Type 0)
+-- what holds of every end, where T holds of every table's address and S of every sum
+module _ (c : Context) (read : ℕ → Word) (S T : ℕ → Type 0) (E : End → Type 0)
     (at-fault : (kind : FaultKind) (left : ℕ) → left ≤ 3 → E (fault kind (levelOf left)))
     (at-table : (left v : ℕ) (table : PhysAddr) → decoded (c .page) (c .limit .0) left v ≡ next.Table table → T (table .0))
-    (at-leaf : (left t v : ℕ) → left ≤ 3 → T t → read (entryAt c left t) ≡ Value v → decoded (c .page) (c .limit .0) left v ≡ next.Leaf → E (leaf (entryAt c left t) v left)) where
-  onward-end : (below : ℕ → Trace) (left t v : ℕ) → left ≤ 3 → T t → read (entryAt c left t) ≡ Value v → ((u : ℕ) → T u → E (below u .end))
-      → (x : Next) → decoded (c .page) (c .limit .0) left v ≡ x → E (onward below left (entryAt c left t) v x .end)
-  onward-end below left t v h e q k (next.Fault kind) d = at-fault kind left h
-  onward-end below left t v h e q k (next.Table table) d = k (table .0) (at-table left v table d)
-  onward-end below left t v h e q k next.Leaf d = at-leaf left t v h e q d
+    (at-sum : (sum v : ℕ) → S sum → S (withTable sum v))
+    (at-leaf : (left sum t v : ℕ) → left ≤ 3 → S sum → T t → read (entryAt c left t) ≡ Value v → decoded (c .page) (c .limit .0) left v ≡ next.Leaf → E (leaf (entryAt c left t) (record { value = v; left = left; tables = sum }))) where
+  onward-end : (below : ℕ → ℕ → Trace) (sum left t v : ℕ) → left ≤ 3 → S sum → T t → read (entryAt c left t) ≡ Value v → ((s u : ℕ) → S s → T u → E (below s u .end))
+      → (x : Next) → decoded (c .page) (c .limit .0) left v ≡ x → E (onward below sum left (entryAt c left t) v x .end)
+  onward-end below sum left t v h z e q k (next.Fault kind) d = at-fault kind left h
+  onward-end below sum left t v h z e q k (next.Table table) d = k (withTable sum v) (table .0) (at-sum sum v z) (at-table left v table d)
+  onward-end below sum left t v h z e q k next.Leaf d = at-leaf left sum t v h z e q d
 
   word-end : (z : Trace) (f : ℕ → Trace) (a : ℕ) → E (z .end) → ((v : ℕ) → read a ≡ Value v → E (f v .end)) → (w : Word) → read a ≡ w → E (onWord z f w .end)
   word-end z f a hz hf (Value v) e = hf v e
   word-end z f a hz hf Unreachable e = hz
 
-  pub descend-end : (n t : ℕ) → n ≤ 4 → T t → E (descend c read n t .end)
+  pub descend-end : (n s t : ℕ) → n ≤ 4 → S s → T t → E (descend c read n s t .end)
   unfolding descend entered followed levelOf
-  descend-end zero t h e = at-fault Translation 0 zero-le
-  descend-end (suc n) t h e =
+  descend-end zero s t h z e = at-fault Translation 0 zero-le
+  descend-end (suc n) s t h z e =
       let a = entryAt c n t in
-      word-end (ended (fault ExternalAbort (levelOf n))) (followed c (descend c read n) n a) a (at-fault ExternalAbort n (omega arith))
-      (λ v q. onward-end (descend c read n) n t v (omega arith) e q (λ u f. descend-end n u (omega arith) f) (decoded (c .page) (c .limit .0) n v) refl)
+      word-end (ended (fault ExternalAbort (levelOf n))) (followed c (descend c read n) s n a) a (at-fault ExternalAbort n (omega arith))
+      (λ v q. onward-end (descend c read n) s n t v (omega arith) z e q (λ x u y f. descend-end n x u (omega arith) y f) (decoded (c .page) (c .limit .0) n v) refl)
       (read a) refl
 
-pub descend-good : (c : Context) (read : ℕ → Word) (g : Paged (c .page)) (n t : ℕ) → n ≤ 4 → t % 8 ≡ 0 → Good c read (descend c read n t .end)
+pub descend-good : (c : Context) (read : ℕ → Word) (g : Paged (c .page)) (n s t : ℕ) → n ≤ 4 → s < 16 → t % 8 ≡ 0 → Good c read (descend c read n s t .end)
 descend-good c read g =
-    descend-end c read (λ t. t % 8 ≡ 0) (Good c read) (λ kind left h. tt)
+    descend-end c read (λ s. s < 16) (λ t. t % 8 ≡ 0) (Good c read) (λ kind left h. tt)
     (λ left v table d. aligned8 (c .page) (table .0) g (is-table (c .page) (c .limit .0) left v table d .aligned))
-    (λ left t v h e q d. record { value = q; leads = d; low = h; aligned = entry-aligned c left t e })
+    sum-below (λ left sum t v h z e q d. record { value = q; leads = d; low = h; few = z; aligned = entry-aligned c left t e })
 
 -- a level is one of the four, and a leaf's value stands in the pool
-pub descend-backed : (c : Context) (pool : List ℕ) (base n t : ℕ) → n ≤ 4 → Backed pool base (descend c (fetched pool base) n t .end)
+pub descend-backed : (c : Context) (pool : List ℕ) (base n s t : ℕ) → n ≤ 4 → s < 16 → Backed pool base (descend c (fetched pool base) n s t .end)
 unfolding levelOf
-descend-backed c pool base n t h =
-    descend-end c (fetched pool base) (λ t. Unit {0}) (Backed pool base) (λ kind left h. omega arith) (λ left v table d. tt) (λ left t v h e q d. (h, q)) n t h tt
+descend-backed c pool base n s t h z =
+    descend-end c (fetched pool base) (λ s. s < 16) (λ t. Unit {0}) (Backed pool base) (λ kind left h. omega arith) (λ left v table d. tt) sum-below (λ left sum t v h z e q d. (h, z, q)) n s t h z tt
 
 pub context-paged : (r : Regime) (a : ℕ) → Paged (contextOf r a .page)
 unfolding contextOf
 context-paged r a = paged
+
+-- what holds of a leaf under tables holds of it under none
+counted-good : (c : Context) (read : ℕ → Word) (hpd : Bool) (e : End) → Good c read e → Good c read (countedEnd hpd e)
+counted-good c read hpd (fault kind level) g = tt
+counted-good c read hpd (leaf a l) g = record {
+  value = g .value;
+  leads = g .leads;
+  low = g .low;
+  few = pick-both (λ (s : ℕ). s < 16) hpd 0 (l .tables) (lit< tt) (g .few);
+  aligned = g .aligned;
+}
+
+counted-backed : (pool : List ℕ) (base : ℕ) (hpd : Bool) (e : End) → Backed pool base e → Backed pool base (countedEnd hpd e)
+counted-backed pool base hpd (fault kind level) g = g
+counted-backed pool base hpd (leaf a l) g = (g .0, pick-both (λ (s : ℕ). s < 16) hpd 0 (l .tables) (lit< tt) (g .1), g .2)
 
 pub locate-good : (r : Regime) (read : ℕ → Word) (a : ℕ) → Sized r → rangeOf r a .root .0 % 8 ≡ 0 → Good (contextOf r a) read (locate r read a .end)
 unfolding locate
 locate-good r read a z e =
     let range = rangeOf r a in
     let c = contextOf r a in
-    let deep = descend c read (suc (firstLeft pageBits (range .tsz))) (range .root .0) in
+    let deep = counted (range .hpd) (descend c read (suc (firstLeft pageBits (range .tsz))) noTables (range .root .0)) in
     let good : Trace → Type 0 = λ t. Good c read (t .end) in
     let beyond = leb (outputLimit (r .output)) (range .root .0) in
     pick-both good (range .disabled || outside (range .tsz) a) (ended (fault Translation 0)) (pick beyond (ended (fault AddressSize 0)) deep) tt
     (pick-both good beyond (ended (fault AddressSize 0)) deep tt
-    (descend-good c read (context-paged r a) (suc (firstLeft pageBits (range .tsz))) (range .root .0) (suc-le-suc (first-le pageBits (range .tsz) paged (range-least r a z))) e))
+    (counted-good c read (range .hpd) (descend c read (suc (firstLeft pageBits (range .tsz))) noTables (range .root .0) .end)
+    (descend-good c read (context-paged r a) (suc (firstLeft pageBits (range .tsz))) noTables (range .root .0) (suc-le-suc (first-le pageBits (range .tsz) paged (range-least r a z))) (lit< tt) e)))
 
 pub locate-backed : (r : Regime) (pool : List ℕ) (base a : ℕ) → Sized r → Backed pool base (locate r (fetched pool base) a .end)
 unfolding locate
 locate-backed r pool base a z =
     let range = rangeOf r a in
-    let deep = descend (contextOf r a) (fetched pool base) (suc (firstLeft pageBits (range .tsz))) (range .root .0) in
+    let deep = counted (range .hpd) (descend (contextOf r a) (fetched pool base) (suc (firstLeft pageBits (range .tsz))) noTables (range .root .0)) in
     let backed : Trace → Type 0 = λ t. Backed pool base (t .end) in
     let beyond = leb (outputLimit (r .output)) (range .root .0) in
     pick-both backed (range .disabled || outside (range .tsz) a) (ended (fault Translation 0)) (pick beyond (ended (fault AddressSize 0)) deep) (lit≤ tt)
     (pick-both backed beyond (ended (fault AddressSize 0)) deep (lit≤ tt)
-    (descend-backed (contextOf r a) pool base (suc (firstLeft pageBits (range .tsz))) (range .root .0) (suc-le-suc (first-le pageBits (range .tsz) paged (range-least r a z)))))
+    (counted-backed pool base (range .hpd) (descend (contextOf r a) (fetched pool base) (suc (firstLeft pageBits (range .tsz))) noTables (range .root .0) .end)
+    (descend-backed (contextOf r a) pool base (suc (firstLeft pageBits (range .tsz))) noTables (range .root .0) (suc-le-suc (first-le pageBits (range .tsz) paged (range-least r a z))) (lit< tt))))
 
 -- ---- the reader over a pool
 

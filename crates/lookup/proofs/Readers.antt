@@ -1,12 +1,14 @@
 -- Two readers that no step can tell apart: a lookup over both visits the same addresses and ends alike.
--- The relation between values is any that decoding cannot see; Access flag and dirty updates are one such.
+-- The relation between values is any that decoding and the bits of a table cannot see; Access flag and dirty updates are one such.
 use Prim.Native.Nat.{ℕ, zero, suc, _+_, _*_, _%_}
 use mathlib.Core.Bool.{Bool, true, false, _||_}
 use mathlib.Core.List.{List, [], _∷_}
-use mathlib.Core.Path.{_≡_, refl, sym, ap, subst, _∙_}
+use mathlib.Core.Path.{_≡_, refl, sym, ap, subst, subst⁻¹, _∙_}
+use lib.Bits.{bitOr}
 use lib.Dec.{leb}
 use Rattle.descriptor.specs.Bits.{pick}
 use Rattle.vmsa.specs.Limits.{pageBits}
+use Rattle.vmsa.specs.Fields.{tableBits, withTable}
 use Rattle.geometry.specs.Geometry.{levelOf, firstLeft, outputLimit, Paged}
 use Rattle.vmsa.specs.declared.Regime.{Regime}
 use Rattle.vmsa.specs.declared.FaultKind.{FaultKind}
@@ -16,8 +18,8 @@ use Rattle.lookup.specs.declared.Word.the-variants.{Value, Unreachable}
 use Rattle.lookup.specs.declared.Next.{Next}
 use Rattle.lookup.specs.declared.Next.the-variants as next
 use Rattle.lookup.specs.declared.Context.{Context}
-use Rattle.lookup.specs.Trace.{End, fault, leaf, Trace, ended}
-use Rattle.lookup.specs.Steps.{decoded, onward, onWord, followed, entryAt, entered, descend, rangeOf, outside, contextOf, locate}
+use Rattle.lookup.specs.Trace.{End, fault, leaf, Trace, ended, countedEnd}
+use Rattle.lookup.specs.Steps.{decoded, onward, onWord, followed, entryAt, entered, descend, rangeOf, outside, contextOf, noTables, locate}
 use Rattle.lookup.proofs.Decoding.{is-table, aligned8}
 use Rattle.lookup.proofs.Reach.{entry-aligned, context-paged}
 
@@ -26,10 +28,10 @@ pub data AlikeWords (R : ℕ → ℕ → Type 0) : Word → Word → Type 0 wher
   unreachable : AlikeWords R Unreachable Unreachable
   values : {v w : ℕ} → R v w → AlikeWords R (Value v) (Value w)
 
--- the same fault, or leaves at the same address with related values
+-- the same fault, or leaves at the same address and under the same tables, with related values
 pub data AlikeEnds (R : ℕ → ℕ → Type 0) : End → End → Type 0 where
   faults : (kind : FaultKind) (level : ℕ) → AlikeEnds R (fault kind level) (fault kind level)
-  leaves : (a left : ℕ) {v w : ℕ} → R v w → AlikeEnds R (leaf a v left) (leaf a w left)
+  leaves : (a left sum : ℕ) {v w : ℕ} → R v w → AlikeEnds R (leaf a (record { value = v; left = left; tables = sum })) (leaf a (record { value = w; left = left; tables = sum }))
 
 pub record AlikeTraces (R : ℕ → ℕ → Type 0) (t u : Trace) : Type 0 where
   pub visited : t .visited ≡ u .visited
@@ -37,38 +39,52 @@ pub record AlikeTraces (R : ℕ → ℕ → Type 0) (t u : Trace) : Type 0 where
 
 module _ (R : ℕ → ℕ → Type 0) (c : Context) (g : Paged (c .page))
     (unseen : (left v w : ℕ) → R v w → decoded (c .page) (c .limit .0) left w ≡ decoded (c .page) (c .limit .0) left v)
+    (same : (v w : ℕ) → R v w → tableBits w ≡ tableBits v)
     (read read2 : ℕ → Word) (alike : (a : ℕ) → a % 8 ≡ 0 → AlikeWords R (read a) (read2 a)) where
-  onward-alike : (below below2 : ℕ → Trace) → ((t : ℕ) → t % 8 ≡ 0 → AlikeTraces R (below t) (below2 t)) → (left a v w : ℕ) → R v w
-      → (x : Next) → decoded (c .page) (c .limit .0) left v ≡ x → AlikeTraces R (onward below left a v x) (onward below2 left a w x)
-  onward-alike below below2 h left a v w k (next.Fault kind) d = record { visited = refl; ends = faults kind (levelOf left) }
-  onward-alike below below2 h left a v w k (next.Table table) d = h (table .0) (aligned8 (c .page) (table .0) g (is-table (c .page) (c .limit .0) left v table d .aligned))
-  onward-alike below below2 h left a v w k next.Leaf d = record { visited = refl; ends = leaves a left k }
+  -- the sums stay the same
+  sum-alike : (sum v w : ℕ) → R v w → withTable sum w ≡ withTable sum v
+  unfolding withTable
+  sum-alike sum v w k = ap (bitOr sum) (same v w k)
 
-  word-alike : (below below2 : ℕ → Trace) → ((t : ℕ) → t % 8 ≡ 0 → AlikeTraces R (below t) (below2 t)) → (left a : ℕ) {x y : Word} → AlikeWords R x y
-      → AlikeTraces R (onWord (ended (fault ExternalAbort (levelOf left))) (followed c below left a) x) (onWord (ended (fault ExternalAbort (levelOf left))) (followed c below2 left a) y)
+  onward-alike : (below below2 : ℕ → ℕ → Trace) → ((s t : ℕ) → t % 8 ≡ 0 → AlikeTraces R (below s t) (below2 s t)) → (sum left a v w : ℕ) → R v w
+      → (x : Next) → decoded (c .page) (c .limit .0) left v ≡ x → AlikeTraces R (onward below sum left a v x) (onward below2 sum left a w x)
+  onward-alike below below2 h sum left a v w k (next.Fault kind) d = record { visited = refl; ends = faults kind (levelOf left) }
+  onward-alike below below2 h sum left a v w k (next.Table table) d =
+      subst⁻¹ (λ (s : ℕ). AlikeTraces R (below (withTable sum v) (table .0)) (below2 s (table .0))) (sum-alike sum v w k)
+      (h (withTable sum v) (table .0) (aligned8 (c .page) (table .0) g (is-table (c .page) (c .limit .0) left v table d .aligned)))
+  onward-alike below below2 h sum left a v w k next.Leaf d = record { visited = refl; ends = leaves a left sum k }
+
+  word-alike : (below below2 : ℕ → ℕ → Trace) → ((s t : ℕ) → t % 8 ≡ 0 → AlikeTraces R (below s t) (below2 s t)) → (sum left a : ℕ) {x y : Word} → AlikeWords R x y
+      → AlikeTraces R (onWord (ended (fault ExternalAbort (levelOf left))) (followed c below sum left a) x) (onWord (ended (fault ExternalAbort (levelOf left))) (followed c below2 sum left a) y)
   unfolding followed
-  word-alike below below2 h left a unreachable = record { visited = refl; ends = faults ExternalAbort (levelOf left) }
-  word-alike below below2 h left a (values {v = v} {w = w} k) =
-      subst (λ (x : Next). AlikeTraces R (onward below left a v (decoded (c .page) (c .limit .0) left v)) (onward below2 left a w x)) (sym (unseen left v w k))
-      (onward-alike below below2 h left a v w k (decoded (c .page) (c .limit .0) left v) refl)
+  word-alike below below2 h sum left a unreachable = record { visited = refl; ends = faults ExternalAbort (levelOf left) }
+  word-alike below below2 h sum left a (values {v = v} {w = w} k) =
+      subst (λ (x : Next). AlikeTraces R (onward below sum left a v (decoded (c .page) (c .limit .0) left v)) (onward below2 sum left a w x)) (sym (unseen left v w k))
+      (onward-alike below below2 h sum left a v w k (decoded (c .page) (c .limit .0) left v) refl)
 
-  pub descend-alike : (n t : ℕ) → t % 8 ≡ 0 → AlikeTraces R (descend c read n t) (descend c read2 n t)
+  pub descend-alike : (n s t : ℕ) → t % 8 ≡ 0 → AlikeTraces R (descend c read n s t) (descend c read2 n s t)
   unfolding descend entered
-  descend-alike zero t e = record { visited = refl; ends = faults Translation 3 }
-  descend-alike (suc n) t e =
+  descend-alike zero s t e = record { visited = refl; ends = faults Translation 3 }
+  descend-alike (suc n) s t e =
       let a = entryAt c n t in
-      let w = word-alike (descend c read n) (descend c read2 n) (λ u f. descend-alike n u f) n a (alike a (entry-aligned c n t e)) in
+      let w = word-alike (descend c read n) (descend c read2 n) (λ x u f. descend-alike n x u f) s n a (alike a (entry-aligned c n t e)) in
       record { visited = ap (λ (l : List ℕ). a ∷ l) (w .visited); ends = w .ends }
+
+-- and so they do where the tables do not count
+counted-alike : (R : ℕ → ℕ → Type 0) (hpd : Bool) {e f : End} → AlikeEnds R e f → AlikeEnds R (countedEnd hpd e) (countedEnd hpd f)
+counted-alike R hpd (faults kind level) = faults kind level
+counted-alike R hpd (leaves a left sum k) = leaves a left (pick hpd 0 sum) k
 
 -- from the root on, where the root's address is a multiple of 8
 pub locate-alike : (R : ℕ → ℕ → Type 0) (r : Regime) (a : ℕ)
     → ((left v w : ℕ) → R v w → decoded (contextOf r a .page) (contextOf r a .limit .0) left w ≡ decoded (contextOf r a .page) (contextOf r a .limit .0) left v)
-    → (read read2 : ℕ → Word) → ((x : ℕ) → x % 8 ≡ 0 → AlikeWords R (read x) (read2 x)) → rangeOf r a .root .0 % 8 ≡ 0 → AlikeTraces R (locate r read a) (locate r read2 a)
+    → ((v w : ℕ) → R v w → tableBits w ≡ tableBits v) → (read read2 : ℕ → Word) → ((x : ℕ) → x % 8 ≡ 0 → AlikeWords R (read x) (read2 x)) → rangeOf r a .root .0 % 8 ≡ 0 → AlikeTraces R (locate r read a) (locate r read2 a)
 unfolding locate
-locate-alike R r a unseen read read2 alike e =
+locate-alike R r a unseen same read read2 alike e =
     let range = rangeOf r a in
     by (range .disabled || outside (range .tsz) a) (leb (outputLimit (r .output)) (range .root .0))
-    (descend-alike R (contextOf r a) (context-paged r a) unseen read read2 alike (suc (firstLeft pageBits (range .tsz))) (range .root .0) e)
+    (let t = descend-alike R (contextOf r a) (context-paged r a) unseen same read read2 alike (suc (firstLeft pageBits (range .tsz))) noTables (range .root .0) e in
+    record { visited = t .visited; ends = counted-alike R (range .hpd) (t .ends) })
   where
     by : {t u : Trace} (off beyond : Bool) → AlikeTraces R t u
         → AlikeTraces R (pick off (ended (fault Translation 0)) (pick beyond (ended (fault AddressSize 0)) t)) (pick off (ended (fault Translation 0)) (pick beyond (ended (fault AddressSize 0)) u))

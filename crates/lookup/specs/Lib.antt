@@ -1,3 +1,4 @@
 pub mod Trace
 pub mod Steps
 pub mod Packing
+pub mod Sum

@@ -1,5 +1,5 @@
 -- How a lookup ends as one number, which passes from level to level in a register. A form of the code: no rule speaks of it.
-use Prim.Native.Nat.{ℕ, _+_, _*_, _≤_}
+use Prim.Native.Nat.{ℕ, suc, _+_, _*_, _≤_, _<_}
 use mathlib.Core.List.{List, [], _∷_}
 use mathlib.Core.Path.{_≡_}
 use lib.ListN.{length, getD}
@@ -26,26 +26,31 @@ kindNumbered n = getD (AddressSize ∷ Translation ∷ AccessFlag ∷ Permission
 abbrev pub leafNumber : ℕ
 leafNumber = 6
 
--- from the lowest digit up: the reads (below 8), the level (below 4), the number of the fault kind or of a leaf (below 8), the leaf descriptor's address
+-- from the lowest digit up: the level (below 4), the number of the fault kind or of a leaf (below 8), the tables' sum (below 16), the leaf descriptor's address
 unfoldable pub joined : ℕ → ℕ → ℕ → ℕ → ℕ
-joined reads level number address = reads + 8 * (level + 4 * (number + 8 * address))
+joined level number tables address = level + 4 * (number + 8 * (tables + 16 * address))
 
--- a trace in one number, k reads having gone before; a leaf's value is left out
-abbrev pub packedEnd : ℕ → End → ℕ
-packedEnd n (fault kind level) = joined n level (kindNumber kind) 0
-packedEnd n (leaf a v left) = joined n (levelOf left) leafNumber a
+-- the end of a trace in one number; a leaf's value is left out, and the reads follow from the level
+abbrev pub packedEnd : End → ℕ
+packedEnd (fault kind level) = joined level (kindNumber kind) 0 0
+packedEnd (leaf a l) = joined (levelOf (l .left)) leafNumber (l .tables) a
 
-unfoldable pub packed : ℕ → Trace → ℕ
-packed k t = packedEnd (k + length (t .visited)) (t .end)
+unfoldable pub packed : Trace → ℕ
+packed t = packedEnd (t .end)
 
--- an end at one of the four levels; a leaf's value stands at its address in the pool
+-- the level at which a lookup ends
+abbrev pub endLevel : End → ℕ
+endLevel (fault kind level) = level
+endLevel (leaf a l) = levelOf (l .left)
+
+-- an end at one of the four levels; a leaf's sum has four bits, and its value stands at its address in the pool
 abbrev pub Backed : List ℕ → ℕ → End → Type 0
 Backed pool base (fault kind level) = level ≤ 3
-Backed pool base (leaf a v left) = (left ≤ 3) × (fetched pool base a ≡ Value v)
+Backed pool base (leaf a l) = (l .left ≤ 3) × (l .tables < 16) × (fetched pool base a ≡ Value (l .value))
 
--- a lookup over the pool that the number n stands for
-pub record Packs (pool : List ℕ) (base n : ℕ) : Type 0 where
+-- a lookup over the pool that the number n stands for: one descriptor was visited at each level, from the first on
+pub record Packs (pool : List ℕ) (base first n : ℕ) : Type 0 where
   pub trace : Trace
-  pub same : n ≡ packed 0 trace
-  pub reads : length (trace .visited) ≤ 4
+  pub same : n ≡ packed trace
+  pub reads : length (trace .visited) + first ≡ suc (endLevel (trace .end))
   pub end : Backed pool base (trace .end)

@@ -1,4 +1,4 @@
--- Steps 1 to 5 of the walk (RULES 6.1 to 6.5): from a guest address to a leaf, or a fault. A reader says what stands at a descriptor address.
+-- Steps 1 to 5 of the walk (RULES 6.1 to 6.5, and 6.11): from a guest address to a leaf, or a fault. A reader says what stands at a descriptor address.
 use Prim.Native.Nat.{ℕ, zero, suc, _+_, _*_, _-_, _/_, _%_, _^_, _<_}
 use mathlib.Core.Bool.{Bool, not, _&&_, _||_}
 use mathlib.Core.List.{List}
@@ -7,6 +7,7 @@ use lib.ListN.{length}
 use Rattle.descriptor.specs.Bytes.{desc}
 use Rattle.descriptor.specs.Bits.{pick, bit}
 use Rattle.vmsa.specs.Limits.{addressLimit, pageBits}
+use Rattle.vmsa.specs.Fields.{withTable}
 use Rattle.geometry.specs.Geometry.{levelOf, pageSize, span, strideBits, blockAt, firstLeft, cut, outputLimit}
 use Rattle.vmsa.specs.declared.Regime.{Regime}
 use Rattle.vmsa.specs.declared.Range.{Range}
@@ -18,7 +19,7 @@ use Rattle.lookup.specs.declared.Word.the-variants.{Value, Unreachable}
 use Rattle.lookup.specs.declared.Next.{Next}
 use Rattle.lookup.specs.declared.Next.the-variants as next
 use Rattle.lookup.specs.declared.Context.{Context}
-use Rattle.lookup.specs.Trace.{fault, leaf, Trace, ended, visit}
+use Rattle.lookup.specs.Trace.{fault, leaf, Trace, ended, visit, counted}
 
 -- ---- steps 4 and 5: what a descriptor says at a level, for page bits p
 
@@ -56,28 +57,28 @@ context base limit input page = record { base = base; limit = limit; input = inp
 unfoldable pub entryAt : Context → ℕ → ℕ → ℕ
 entryAt c left table = table + 8 * (c .input .0 / span (c .page) left % 2 ^ strideBits (c .page))
 
--- where the descriptor v at address a leads; below goes on at a table, one level lower
-abbrev pub onward : (ℕ → Trace) → ℕ → ℕ → ℕ → Next → Trace
-onward below left a v (next.Fault kind) = ended (fault kind (levelOf left))
-onward below left a v (next.Table table) = below (table .0)
-onward below left a v next.Leaf = ended (leaf a v left)
+-- where the descriptor v at address a leads, the tables on the way having this sum; below goes on at a table, one level lower, its bits in the sum
+abbrev pub onward : (ℕ → ℕ → Trace) → ℕ → ℕ → ℕ → ℕ → Next → Trace
+onward below sum left a v (next.Fault kind) = ended (fault kind (levelOf left))
+onward below sum left a v (next.Table table) = below (withTable sum v) (table .0)
+onward below sum left a v next.Leaf = ended (leaf a (record { value = v; left = left; tables = sum }))
 
-unfoldable pub followed : Context → (ℕ → Trace) → ℕ → ℕ → ℕ → Trace
-followed c below left a v = onward below left a v (decoded (c .page) (c .limit .0) left v)
+unfoldable pub followed : Context → (ℕ → ℕ → Trace) → ℕ → ℕ → ℕ → ℕ → Trace
+followed c below sum left a v = onward below sum left a v (decoded (c .page) (c .limit .0) left v)
 
 abbrev pub onWord : Trace → (ℕ → Trace) → Word → Trace
 onWord unreachable value (Value v) = value v
 onWord unreachable value Unreachable = unreachable
 
-unfoldable pub entered : Context → (ℕ → Word) → (ℕ → Trace) → ℕ → ℕ → Trace
-entered c read below left table =
+unfoldable pub entered : Context → (ℕ → Word) → (ℕ → ℕ → Trace) → ℕ → ℕ → ℕ → Trace
+entered c read below left sum table =
     visit (entryAt c left table)
-    (onWord (ended (fault ExternalAbort (levelOf left))) (followed c below left (entryAt c left table)) (read (entryAt c left table)))
+    (onWord (ended (fault ExternalAbort (levelOf left))) (followed c below sum left (entryAt c left table)) (read (entryAt c left table)))
 
--- n levels from a table on; the last has no levels left. The clause for none is never reached: level 3 has no tables (isTable)
-unfoldable pub descend : Context → (ℕ → Word) → ℕ → ℕ → Trace
-descend c read zero table = ended (fault Translation 3)
-descend c read (suc left) table = entered c read (descend c read left) left table
+-- n levels from a table on, those above it having this sum; the last has no levels left. The clause for none is never reached: level 3 has no tables (isTable)
+unfoldable pub descend : Context → (ℕ → Word) → ℕ → ℕ → ℕ → Trace
+descend c read zero sum table = ended (fault Translation 3)
+descend c read (suc left) sum table = entered c read (descend c read left) left sum table
 
 -- ---- steps 1 and 2
 
@@ -96,11 +97,15 @@ outside t a = not (eqb (a / 2 ^ (64 - t)) (pick (upper a) (2 ^ t - 1) 0))
 unfoldable pub contextOf : Regime → ℕ → Context
 contextOf r a = record { base = r .pool .address; limit = record { 0 = outputLimit (r .output) }; input = record { 0 = a % 2 ^ (64 - rangeOf r a .tsz) }; page = pageBits }
 
+-- no table yet
+abbrev pub noTables : ℕ
+noTables = 0
+
 unfoldable pub locate : Regime → (ℕ → Word) → ℕ → Trace
 locate r read a =
     pick (rangeOf r a .disabled || outside (rangeOf r a .tsz) a) (ended (fault Translation 0))
     (pick (leb (outputLimit (r .output)) (rangeOf r a .root .0)) (ended (fault AddressSize 0))
-    (descend (contextOf r a) read (suc (firstLeft pageBits (rangeOf r a .tsz))) (rangeOf r a .root .0)))
+    (counted (rangeOf r a .hpd) (descend (contextOf r a) read (suc (firstLeft pageBits (rangeOf r a .tsz))) noTables (rangeOf r a .root .0))))
 
 -- what a walk can rely on where a table follows
 abbrev pub Sound : ℕ → Next → Type 0

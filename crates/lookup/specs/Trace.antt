@@ -1,16 +1,19 @@
--- What steps 1 to 5 of the walk (RULES 6) leave: the descriptor addresses visited, and how the steps end.
+-- What steps 1 to 5 of the walk (RULES 6, with 6.11) leave: the descriptor addresses visited, and how the steps end.
 use Prim.Native.Nat.{ℕ, _+_}
+use mathlib.Core.Bool.{Bool}
 use mathlib.Core.List.{List, [], _∷_}
 use lib.ListN.{length}
+use Rattle.descriptor.specs.Bits.{pick}
 use Rattle.geometry.specs.Geometry.{levelOf}
 use Rattle.vmsa.specs.declared.FaultKind.{FaultKind}
+use Rattle.vmsa.specs.declared.Leaf.{Leaf}
 use Rattle.lookup.specs.declared.Ending.the-variants as ending
 use Rattle.lookup.specs.declared.Located.{Located}
 
--- a fault with its level, or a leaf: its descriptor's address and value, and the levels left below it
+-- a fault with its level, or a leaf and its descriptor's address
 pub data End : Type 0 where
   fault : FaultKind → ℕ → End
-  leaf : ℕ → ℕ → ℕ → End
+  leaf : ℕ → Leaf → End
 
 -- the list of descriptor addresses the rules visit, in order (RULES 9.3), and the end
 pub record Trace : Type 0 where
@@ -25,10 +28,21 @@ ended e = record { visited = []; end = e }
 abbrev pub visit : ℕ → Trace → Trace
 visit a t = record { visited = a ∷ t .visited; end = t .end }
 
+-- where HPD is on, the tables on the way do not count (RULES 6.11): the leaf's sum is empty
+abbrev pub countedLeaf : Bool → Leaf → Leaf
+countedLeaf hpd l = record { value = l .value; left = l .left; tables = pick hpd 0 (l .tables) }
+
+abbrev pub countedEnd : Bool → End → End
+countedEnd hpd (fault kind level) = fault kind level
+countedEnd hpd (leaf a l) = leaf a (countedLeaf hpd l)
+
+abbrev pub counted : Bool → Trace → Trace
+counted hpd t = record { visited = t .visited; end = countedEnd hpd (t .end) }
+
 -- a trace as the code hands it back, k reads having gone before
 abbrev pub shownEnd : ℕ → End → Located
-shownEnd n (fault kind level) = record { ending = ending.Fault kind; level = level; reads = n; address = record { 0 = 0 }; leaf = record { value = 0; left = 0 } }
-shownEnd n (leaf a v left) = record { ending = ending.Leaf; level = levelOf left; reads = n; address = record { 0 = a }; leaf = record { value = v; left = left } }
+shownEnd n (fault kind level) = record { ending = ending.Fault kind; level = level; reads = n; address = record { 0 = 0 }; leaf = record { value = 0; left = 0; tables = 0 } }
+shownEnd n (leaf a l) = record { ending = ending.Leaf; level = levelOf (l .left); reads = n; address = record { 0 = a }; leaf = l }
 
 unfoldable pub shown : ℕ → Trace → Located
 shown k t = shownEnd (k + length (t .visited)) (t .end)

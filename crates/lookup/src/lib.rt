@@ -2,8 +2,9 @@
 ghost use mathlib.Core.Path.{_≡_};
 ghost use Prim.Native.Nat.{suc, _+_, _*_, _≤_, _<_, _^_};
 ghost use Rattle.vmsa.specs.Limits.{addressLimit, tszLeast, tszMost, Sized};
+ghost use Rattle.vmsa.specs.Fields.{tableBits};
 ghost use Rattle.geometry.specs.Geometry.{levelOf, Paged};
-ghost use Rattle.lookup.specs.Trace.{fault, ended, shown};
+ghost use Rattle.lookup.specs.Trace.{fault, ended, counted, shown};
 ghost use Rattle.lookup.specs.Steps.{invalid as invalidAt, isTable, addressIn, decoded, Sound, fetched, context, entryAt, followed, descend, upper as upperAt, rangeOf, outside as outsideAt, locate as locateAt};
 ghost use Rattle.lookup.specs.Packing.{kindNumber, kindNumbered, joined, packed, Packs};
 use vmsa::FaultKind;
@@ -14,11 +15,11 @@ use vmsa::Regime;
 use vmsa::VirtAddr;
 
 // How many values the digits of a packed lookup have, and the number of a leaf; specs/Packing.antt has the same numbers.
-const READS: u64 = 8;
-
 const LEVELS: u64 = 4;
 
 const ENDINGS: u64 = 8;
+
+const SUMS: u64 = 16;
 
 const LEAF: u64 = 6;
 
@@ -66,7 +67,11 @@ fn failed(kind: FaultKind, level: u8, reads: u8) -> Located
         level: level,
         reads: reads,
         address: PhysAddr(0),
-        leaf: Leaf { value: 0, left: 0 },
+        leaf: Leaf {
+            value: 0,
+            left: 0,
+            tables: 0,
+        },
     }
 }
 
@@ -99,12 +104,13 @@ fn kind_numbered(number: u64) -> FaultKind
 }
 
 // How a lookup ends, in one number: it passes in a register, where a struct would pass through memory at every level.
-// number is that of the fault kind or of a leaf, address that of the leaf's descriptor or 0.
-fn pack(reads: u8, left: u8, number: u64, address: PhysAddr) -> u64
-    requires { ⌜ (reads ≤ 4) × (left ≤ 3) × (number ≤ 6) × (address .0 < 2 ^ 49) ⌝ }
-    ensures { λ n. ⌜ n ≡ joined reads (levelOf left) number (address .0) ⌝ }
+// number is that of the fault kind or of a leaf; sum and address are the tables' sum and the descriptor's address of a leaf, or 0.
+fn pack(left: u8, number: u64, sum: u64, address: PhysAddr) -> u64
+    requires { ⌜ (left ≤ 3) × (number ≤ 6) × (sum < 16) × (address .0 < 2 ^ 49) ⌝ }
+    ensures { λ n. ⌜ n ≡ joined (levelOf left) number sum (address .0) ⌝ }
 {
-    reads as u64 + READS * (geometry::level(left) as u64 + LEVELS * (number + ENDINGS * address.0))
+    let end = number + ENDINGS * (sum + SUMS * address.0);
+    geometry::level(left) as u64 + LEVELS * end
 }
 
 fn invalid(p: u8, left: u8, v: u64) -> bool
@@ -173,7 +179,14 @@ pub fn entry_at(c: Context, left: u8, table: PhysAddr) -> PhysAddr
     PhysAddr(table.0 + 8 * (c.input.0 / geometry::span(p, left) % geometry::entries(p)))
 }
 
-// Reads the entry of a table, and follows it.
+// Bits 62 to 59 of a table descriptor.
+fn table_bits(v: u64) -> u64
+    ensures { λ r. ⌜ (r ≡ tableBits v) × (r < 16) ⌝ }
+{
+    descriptor::field(v, vmsa::TABLE_BITS, vmsa::TABLE_WIDTH)
+}
+
+// Reads the entry of a table, and follows it. tables has in bits 62 to 59 the sum of those on the way.
 fn enter(
     pool: &[u8],
     base: PhysAddr,
@@ -182,10 +195,10 @@ fn enter(
     page: u8,
     table: PhysAddr,
     left: u8,
-    reads: u8,
+    tables: u64,
 ) -> u64
-    requires { ⌜ Paged page × (left + reads ≤ 3) × (table .0 < addressLimit) ⌝ }
-    ensures { λ n. ⌜ n ≡ packed reads (descend (context base limit input page) (fetched (now (pool .entry)) (base .0)) (suc left) (table .0)) ⌝ }
+    requires { ⌜ Paged page × (left ≤ 3) × (table .0 < addressLimit) ⌝ }
+    ensures { λ n. ⌜ n ≡ packed (descend (context base limit input page) (fetched (now (pool .entry)) (base .0)) (suc left) (tableBits tables) (table .0)) ⌝ }
 {
     let c = Context {
         base: base,
@@ -195,14 +208,9 @@ fn enter(
     };
     let at = entry_at(c, left, table);
     let Word::Value(v) = fetch(pool, base, at) else {
-        return pack(
-            reads + 1,
-            left,
-            kind_number(FaultKind::ExternalAbort),
-            PhysAddr(0),
-        );
+        return pack(left, kind_number(FaultKind::ExternalAbort), 0, PhysAddr(0));
     };
-    follow(pool, base, limit, input, page, at, v, left, reads + 1)
+    follow(pool, base, limit, input, page, at, v, left, tables)
 }
 
 // Decodes the descriptor v at an address, and descends at a table.
@@ -215,31 +223,32 @@ fn follow(
     at: PhysAddr,
     v: u64,
     left: u8,
-    reads: u8,
+    tables: u64,
 ) -> u64
-    requires { ⌜ Paged page × (left + reads ≤ 4) × (left ≤ 3) × (at .0 < 2 ^ 49) ⌝ }
-    ensures { λ n. ⌜ n ≡ packed reads (followed (context base limit input page) (descend (context base limit input page) (fetched (now (pool .entry)) (base .0)) left) left (at .0) v) ⌝ }
+    requires { ⌜ Paged page × (left ≤ 3) × (at .0 < 2 ^ 49) ⌝ }
+    ensures { λ n. ⌜ n ≡ packed (followed (context base limit input page) (descend (context base limit input page) (fetched (now (pool .entry)) (base .0)) left) (tableBits tables) left (at .0) v) ⌝ }
 {
     match decode(page, limit, left, v) {
-        Next::Fault(kind) => pack(reads, left, kind_number(kind), PhysAddr(0)),
-        Next::Table(table) => enter(pool, base, limit, input, page, table, left - 1, reads),
-        Next::Leaf => pack(reads, left, LEAF, at),
+        Next::Fault(kind) => pack(left, kind_number(kind), 0, PhysAddr(0)),
+        Next::Table(table) => enter(pool, base, limit, input, page, table, left - 1, tables | v),
+        Next::Leaf => pack(left, LEAF, table_bits(tables), at),
     }
 }
 
-// A packed lookup over the pool, taken apart; the leaf is read again.
-fn unpack(pool: &[u8], base: PhysAddr, n: u64) -> Located
-    requires { ⌜ Packs (now pool) (base .0) n ⌝ }
-    ensures { λ r. ⌜ ((p : Packs (now (pool .entry)) (base .0) n) → r ≡ shown 0 (p .trace)) ⌝ }
+// A packed lookup over the pool, taken apart: a read for each level from the first on, the leaf read again, and the tables' sum where HPD is off.
+fn unpack(pool: &[u8], base: PhysAddr, hpd: bool, first: u8, n: u64) -> Located
+    requires { ⌜ Packs (now pool) (base .0) first n ⌝ }
+    ensures { λ r. ⌜ ((p : Packs (now (pool .entry)) (base .0) first n) → r ≡ shown 0 (counted hpd (p .trace))) ⌝ }
 {
-    let reads = (n % READS) as u8;
-    let level = (n / READS % LEVELS) as u8;
-    let end = n / READS / LEVELS;
+    let level = (n % LEVELS) as u8;
+    let reads = level + 1 - first;
+    let end = n / LEVELS;
     let number = end % ENDINGS;
     if number != LEAF {
         return failed(kind_numbered(number), level, reads);
     }
-    let address = end / ENDINGS;
+    let sum = end / ENDINGS % SUMS;
+    let address = end / ENDINGS / SUMS;
     Located {
         ending: Ending::Leaf,
         level: level,
@@ -248,6 +257,7 @@ fn unpack(pool: &[u8], base: PhysAddr, n: u64) -> Located
         leaf: Leaf {
             value: descriptor::load(pool, (address - base.0) as usize),
             left: geometry::level(level),
+            tables: descriptor::select(hpd, 0, sum) as u8,
         },
     }
 }
@@ -293,5 +303,5 @@ pub fn locate(pool: &[u8], r: Regime, a: VirtAddr) -> Located
     let input = VirtAddr(a.0 % descriptor::power(64 - t));
     let left = geometry::first_left(vmsa::PAGE_BITS, t);
     let n = enter(pool, base, limit, input, vmsa::PAGE_BITS, root, left, 0);
-    unpack(pool, base, n)
+    unpack(pool, base, range.hpd, geometry::level(left), n)
 }

@@ -1,7 +1,8 @@
-// What a leaf permits: the tests of steps 6 to 8 of the walk.
+// What a leaf permits under the tables above it: the tests of steps 6 to 8 of the walk.
 ghost use mathlib.Core.Path.{_≡_};
 ghost use Prim.Native.Nat.{_<_};
-ghost use Rattle.permission.specs.Permission.{attributeOf, writable as writableOf, clean as cleanOf, user as userOf, mayRead, mayWrite, mayFetch, permitted as permittedOf, misaligned as misalignedOf, flagFails, alignmentFails, permissionFails};
+ghost use Rattle.descriptor.specs.Bits.{bit as bitOf};
+ghost use Rattle.permission.specs.Permission.{attributeOf, writable as writableOf, clean as cleanOf, user as userOf, uxn as uxnOf, pxn as pxnOf, mayRead, mayFetchWith, permitted as permittedOf, misaligned as misalignedOf, flagFails, alignmentFails, permissionFails};
 use vmsa::Access;
 use vmsa::Leaf;
 use vmsa::Regime;
@@ -14,11 +15,20 @@ pub fn attribute_of(r: Regime, l: Leaf) -> u8
     vmsa::attribute(r.attributes, index)
 }
 
+// Whether the tables above a leaf have a bit.
+fn below(l: Leaf, n: u8) -> bool
+    requires { ⌜ n < 8 ⌝ }
+    ensures { λ b. ⌜ b ≡ bitOf n (l .tables) ⌝ }
+{
+    descriptor::bit(l.tables as u64, n)
+}
+
 // W (RULES 7.1): writable, clean or dirty.
 pub fn writable(r: Regime, l: Leaf) -> bool
     ensures { λ b. ⌜ b ≡ writableOf r l ⌝ }
 {
-    !descriptor::bit(l.value, vmsa::AP2) | descriptor::bit(l.value, vmsa::DBM) & r.ha & r.hd
+    !below(l, vmsa::NO_WRITE_BELOW)
+        & (!descriptor::bit(l.value, vmsa::AP2) | descriptor::bit(l.value, vmsa::DBM) & r.ha & r.hd)
 }
 
 // Writable-clean: a write would make it dirty.
@@ -31,7 +41,19 @@ pub fn clean(r: Regime, l: Leaf) -> bool
 fn user(l: Leaf) -> bool
     ensures { λ b. ⌜ b ≡ userOf l ⌝ }
 {
-    descriptor::bit(l.value, vmsa::AP1)
+    descriptor::bit(l.value, vmsa::AP1) & !below(l, vmsa::NO_USER_BELOW)
+}
+
+fn uxn(l: Leaf) -> bool
+    ensures { λ b. ⌜ b ≡ uxnOf l ⌝ }
+{
+    descriptor::bit(l.value, vmsa::UXN) | below(l, vmsa::UXN_BELOW)
+}
+
+fn pxn(l: Leaf) -> bool
+    ensures { λ b. ⌜ b ≡ pxnOf l ⌝ }
+{
+    descriptor::bit(l.value, vmsa::PXN) | below(l, vmsa::PXN_BELOW)
 }
 
 fn may_read(el0: bool, l: Leaf) -> bool
@@ -40,32 +62,28 @@ fn may_read(el0: bool, l: Leaf) -> bool
     !el0 | user(l)
 }
 
-fn may_write(r: Regime, el0: bool, l: Leaf) -> bool
-    ensures { λ b. ⌜ b ≡ mayWrite r el0 l ⌝ }
+// w is W. The leaf's W is worked out once, and the whole regime is not handed on: the session's hit path stays one function of machine code.
+fn may_fetch(wxn: bool, el0: bool, w: bool, l: Leaf) -> bool
+    ensures { λ b. ⌜ b ≡ mayFetchWith wxn el0 w l ⌝ }
 {
-    may_read(el0, l) & writable(r, l)
-}
-
-fn may_fetch(r: Regime, el0: bool, l: Leaf) -> bool
-    ensures { λ b. ⌜ b ≡ mayFetch r el0 l ⌝ }
-{
-    let w = writable(r, l);
     let u = user(l);
-    let from_el0 = !(descriptor::bit(l.value, vmsa::UXN) | r.wxn & u & w);
-    let from_el1 = !(descriptor::bit(l.value, vmsa::PXN) | u & w | r.wxn & w);
+    let from_el0 = !(uxn(l) | wxn & u & w);
+    let from_el1 = !(pxn(l) | u & w | wxn & w);
     descriptor::select_bool(el0, from_el0, from_el1)
 }
 
-// Whether a leaf permits an access.
+// Whether a leaf permits an access; a read asks nothing of W.
 pub fn permitted(r: Regime, a: Access, l: Leaf) -> bool
     ensures { λ b. ⌜ b ≡ permittedOf r a l ⌝ }
 {
     let kind = a.kind;
-    if kind.is_fetch() {
-        return may_fetch(r, a.el0, l);
-    }
-    if kind.asks_write() {
-        return may_write(r, a.el0, l);
+    let fetch = kind.is_fetch();
+    if fetch | kind.asks_write() {
+        let w = writable(r, l);
+        if fetch {
+            return may_fetch(r.wxn, a.el0, w, l);
+        }
+        return may_read(a.el0, l) & w;
     }
     may_read(a.el0, l)
 }
@@ -101,9 +119,12 @@ pub fn alignment_fails(r: Regime, a: Access, l: Leaf) -> bool
 pub fn permission_fails(r: Regime, a: Access, l: Leaf) -> bool
     ensures { λ b. ⌜ b ≡ permissionFails r a l ⌝ }
 {
-    let kind = a.kind;
-    if kind.is_fetch() {
-        return !permitted(r, a, l) | vmsa::device(attribute_of(r, l));
+    if permitted(r, a, l) {
+        let kind = a.kind;
+        if kind.is_fetch() {
+            return vmsa::device(attribute_of(r, l));
+        }
+        return false;
     }
-    !permitted(r, a, l)
+    true
 }

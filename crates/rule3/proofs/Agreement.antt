@@ -14,18 +14,18 @@ use Rattle.geometry.specs.Geometry.{levelOf, shiftOf, span, cut}
 use Rattle.geometry.proofs.Geometry.{shift-least}
 use Rattle.vmsa.specs.Answers.{Result, success, fault, refused, cacheableIn, dirtiedIn}
 use Rattle.vmsa.specs.Kinds.{isProbe, writes}
-use Rattle.vmsa.specs.Fields.{attributeIndex, ap1, ap2, shareability, af, nonglobal, dbm, pxn, uxn, clearAp2}
+use Rattle.vmsa.specs.Fields.{attributeIndex, ap1, ap2, shareability, af, nonglobal, dbm, pxn, uxn, clearAp2, noWriteBelow}
 use Rattle.vmsa.specs.declared.Regime.{Regime}
 use Rattle.vmsa.specs.declared.Access.{Access}
 use Rattle.vmsa.specs.declared.Leaf.{Leaf}
 use Rattle.vmsa.specs.declared.FaultKind.{FaultKind}
 use Rattle.vmsa.specs.declared.FaultKind.the-variants.{AccessFlag, Alignment, Permission}
 use Rattle.lookup.proofs.Decoding.{cut-same}
-use Rattle.permission.specs.Permission.{attributeOf, writable, clean, user, mayRead, mayWrite, mayFetch, permitted, flagFails, alignmentFails, permissionFails}
+use Rattle.permission.specs.Permission.{attributeOf, writable, clean, user, uxn as uxnOf, pxn as pxnOf, mayRead, mayWrite, mayFetchWith, mayFetch, permitted, flagFails, alignmentFails, permissionFails}
 use Rattle.decision.specs.Decision.{Decision, flagDue, dirtyDue, updated, cacheable, outputOf, failing, passing, decision}
 use Rattle.rules.proofs.Updates.{updated-none, updated-af}
 use Rattle.tlb.specs.Replies.{updates}
-use Rattle.tlb.specs.Walker.{revalued}
+use Rattle.walk.specs.Walk.{revalued}
 use Rattle.tlb.specs.Ours.{judged, accessedIn, stamped}
 
 -- ---- what a leaf answers, by the three tests
@@ -101,6 +101,7 @@ data How (r : Regime) (v w : ℕ) : Type 0 where
 pub record Agree (r : Regime) (h u : Leaf) : Type 0 where
   flag : af (h .value) ≡ true
   level : u .left ≡ h .left
+  tables : u .tables ≡ h .tables
   how : How r (h .value) (u .value)
 
 -- ---- a value with AP[2] cleared: every other field
@@ -136,18 +137,19 @@ cut-cleared v left = cut-same (clearAp2 v) v (shiftOf pageBits left) (shift-leas
 
 -- ---- the tests on such a leaf
 
-module _ (r : Regime) (a : Access) (v left : ℕ) (e : ap2 v ≡ true) (g : (dbm v && r .ha && r .hd) ≡ true) where
+module _ (r : Regime) (a : Access) (v left sum : ℕ) (e : ap2 v ≡ true) (g : (dbm v && r .ha && r .hd) ≡ true) where
   old : Leaf
-  old = record { value = v; left = left }
+  old = record { value = v; left = left; tables = sum }
 
   new : Leaf
-  new = record { value = clearAp2 v; left = left }
+  new = record { value = clearAp2 v; left = left; tables = sum }
 
-  writable-old : writable r old ≡ true
+  -- both are writable unless a table takes that away
+  writable-old : writable r old ≡ (not (noWriteBelow sum) && true)
   unfolding writable old
   writable-old = rw (e, g)
 
-  writable-new : writable r new ≡ true
+  writable-new : writable r new ≡ (not (noWriteBelow sum) && true)
   unfolding writable new
   writable-new = rw (clear-bit 7 v)
 
@@ -156,7 +158,15 @@ module _ (r : Regime) (a : Access) (v left : ℕ) (e : ap2 v ≡ true) (g : (dbm
 
   user-cleared : user new ≡ user old
   unfolding user old new
-  user-cleared = ap1-cleared v
+  user-cleared = rw (ap1-cleared v)
+
+  uxn-leaf : uxnOf new ≡ uxnOf old
+  unfolding uxnOf old new
+  uxn-leaf = rw (uxn-cleared v)
+
+  pxn-leaf : pxnOf new ≡ pxnOf old
+  unfolding pxnOf old new
+  pxn-leaf = rw (pxn-cleared v)
 
   attribute-cleared : attributeOf r new ≡ attributeOf r old
   unfolding attributeOf old new
@@ -179,8 +189,8 @@ module _ (r : Regime) (a : Access) (v left : ℕ) (e : ap2 v ≡ true) (g : (dbm
   write-cleared = rw (read-cleared, writable-cleared)
 
   fetch-cleared : mayFetch r (a .el0) new ≡ mayFetch r (a .el0) old
-  unfolding mayFetch new old
-  fetch-cleared = rw (writable-cleared, user-cleared, uxn-cleared v, pxn-cleared v)
+  unfolding mayFetch mayFetchWith
+  fetch-cleared = rw (writable-cleared, user-cleared, uxn-leaf, pxn-leaf)
 
   permission-cleared : permissionFails r a new ≡ permissionFails r a old
   unfolding permissionFails permitted
@@ -222,23 +232,24 @@ module _ (r : Regime) (a : Access) (v left : ℕ) (e : ap2 v ≡ true) (g : (dbm
       by false false true q = fault-cleared Permission
       by false false false q = success-cleared (sym (dirty-success r a old) ∙ q)
 
-pub judged-cleared-at : (r : Regime) (a : Access) (v left : ℕ) → ap2 v ≡ true → (dbm v && r .ha && r .hd) ≡ true
-    → dirtiedIn (judged r (record { value = v; left = left }) a) ≡ false
-    → judged r (record { value = clearAp2 v; left = left }) a ≡ judged r (record { value = v; left = left }) a
+pub judged-cleared-at : (r : Regime) (a : Access) (v left sum : ℕ) → ap2 v ≡ true → (dbm v && r .ha && r .hd) ≡ true
+    → dirtiedIn (judged r (record { value = v; left = left; tables = sum }) a) ≡ false
+    → judged r (record { value = clearAp2 v; left = left; tables = sum }) a ≡ judged r (record { value = v; left = left; tables = sum }) a
 unfolding old new
-judged-cleared-at r a v left e g d = judged-cleared r a v left e g d
+judged-cleared-at r a v left sum e g d = judged-cleared r a v left sum e g d
 
 -- ---- the laws of agreement
 
--- a leaf is its value and its level
-agree-by : (r : Regime) (a : Access) (v w left : ℕ) → How r v w → dirtiedIn (judged r (record { value = v; left = left }) a) ≡ false
-    → judged r (record { value = w; left = left }) a ≡ judged r (record { value = v; left = left }) a
-agree-by r a v w left (same e) d = rw e
-agree-by r a v w left (cleared e g q) d = rw q (judged-cleared-at r a v left e g d)
+-- a leaf is its value, its level and its tables
+agree-by : (r : Regime) (a : Access) (v w left sum : ℕ) → How r v w → dirtiedIn (judged r (record { value = v; left = left; tables = sum }) a) ≡ false
+    → judged r (record { value = w; left = left; tables = sum }) a ≡ judged r (record { value = v; left = left; tables = sum }) a
+agree-by r a v w left sum (same e) d = rw e
+agree-by r a v w left sum (cleared e g q) d = rw q (judged-cleared-at r a v left sum e g d)
 
 pub agree-same : (r : Regime) (h u : Leaf) (a : Access) → Agree r h u → dirtiedIn (judged r h a) ≡ false → judged r u a ≡ judged r h a
 agree-same r h u a k d =
-    ap (λ (n : ℕ). judged r (record { value = u .value; left = n }) a) (k .level) ∙ agree-by r a (h .value) (u .value) (h .left) (k .how) d
+    ap₂ (λ (n s : ℕ). judged r (record { value = u .value; left = n; tables = s }) a) (k .level) (k .tables)
+    ∙ agree-by r a (h .value) (u .value) (h .left) (h .tables) (k .how) d
 
 -- with AF set no flag is due
 flag-off : (r : Regime) (a : Access) (l : Leaf) → af (l .value) ≡ true → flagDue r a l ≡ false
@@ -306,7 +317,7 @@ flagged r a l = judged-all (Flagged (l .value)) r a l (flagged-fault l) (flagged
 
 pub agree-self : (r : Regime) (u : Leaf) (a : Access) → cacheableIn (judged r u a) ≡ true
     → Agree r (revalued u (stamped (judged r u a) (u .value))) (revalued u (stamped (judged r u a) (u .value)))
-agree-self r u a e = record { flag = flagged r a u e; level = refl; how = same refl }
+agree-self r u a e = record { flag = flagged r a u e; level = refl; tables = refl; how = same refl }
 
 -- ---- a leaf that agrees, after an update of its descriptor
 
@@ -330,8 +341,9 @@ marks r a l e = judged-all (Marks r l) r a l (marks-fault r l) (marks-success r 
 clean-is : (r : Regime) (l : Leaf) → clean r l ≡ true → (ap2 (l .value) ≡ true) × ((dbm (l .value) && r .ha && r .hd) ≡ true)
 unfolding clean writable
 clean-is r l e =
-    let t = and-true (ap2 (l .value)) (not (ap2 (l .value)) || dbm (l .value) && r .ha && r .hd) e in
-    (t .0, rw (t .0) at (t .1))
+    let t = and-true (ap2 (l .value)) (not (noWriteBelow (l .tables)) && (not (ap2 (l .value)) || dbm (l .value) && r .ha && r .hd)) e in
+    let u = and-true (not (noWriteBelow (l .tables))) (not (ap2 (l .value)) || dbm (l .value) && r .ha && r .hd) (t .1) in
+    (t .0, rw (t .0) at (u .1))
 
 agree-flag : (r : Regime) (v w : ℕ) → af v ≡ true → How r v w → af w ≡ true
 agree-flag r v w e (same q) = rw q e
@@ -352,5 +364,6 @@ agree-mark r h u v a k q =
     record {
       flag = k .flag;
       level = k .level;
+      tables = k .tables;
       how = rw (m .0) (how-marked r (h .value) (v .value) (rw q (k .how)) (dirtiedIn (judged r v a)) (λ d. clean-is r v (m .1 d)));
     }

@@ -22,8 +22,9 @@ use Rattle.vmsa.specs.declared.Leaf.{Leaf}
 use Rattle.vmsa.specs.declared.Refusal.{Refusal}
 use Rattle.checks.specs.declared.Checked.{Checked}
 use Rattle.checks.specs.declared.Checked.the-variants.{Accepted, Refused}
+use Rattle.walk.specs.Walk.{revalued}
 use Rattle.tlb.specs.Replies.{Reply, done, refused, answered, Told, told, uncounted, updates, dirties}
-use Rattle.tlb.specs.Walker.{Walker, Spot, lost, found, andThen, noRegime, Entry, empty, holds, entryCount, entryOf, heldIn, revalued, Walked, putWord, landed, walkFrom, walked, recall, accessHeld, accessBy}
+use Rattle.tlb.specs.Walker.{Walker, Spot, lost, found, andThen, noRegime, Entry, empty, holds, entryCount, entryOf, heldIn, Walked, putWord, landed, walkFrom, walked, recall, accessHeld, accessBy}
 use Rattle.tlb.proofs.Walking.{both}
 use Rattle.session.specs.Model.{noEntries, held, keep, Session, fresh, Stepped, stay, refusal as refusing, Call, setRegime, access, store, dropAll, setBy, setCall, dropCall, storeBy, storeIn, storeCall, learn, accessWith, accessCall, call}
 use Rattle.calls.specs.Chains.{Event, event}

@@ -15,7 +15,7 @@ use Rattle.vmsa.specs.declared.Access.{Access}
 use Rattle.checks.specs.declared.Checked.{Checked}
 use Rattle.checks.specs.declared.Checked.the-variants.{Accepted, Refused}
 use Rattle.checks.specs.Order.{firstOf, memoryRows, settingRows, regimeRows, accessRows, storeRows, walkCheck, sessionStoreCheck}
-use Rattle.walk.specs.Walk.{Outcome, checked, walk}
+use Rattle.walk.specs.Walk.{Outcome, walkPool, checked, walk}
 use Rattle.walk.proofs.Ends.{ready}
 use Rattle.tlb.specs.Replies.{Reply, Told, told, replyOf}
 use Rattle.tlb.specs.Walker.{andThen, Walked, walked}
@@ -51,7 +51,7 @@ checks-of r n a =
     ∙ then-assoc (firstOf (memoryRows n (r .pool))) (firstOf (settingRows r)) (firstOf (accessRows a))
 
 plain-by : (r : Regime) (m : List ℕ) (a : Access) (c : Checked) → walkCheck (length m) r a ≡ c
-    → _≡_ {A = Told Reply} (record { reply = replyOf (checked r a m c .result); memory = checked r a m c .bytes }) (unlessRefused c m (walked ours r m a))
+    → _≡_ {A = Told Reply} (record { reply = replyOf (checked (walkPool r a) (r .pool) m c .result); memory = checked (walkPool r a) (r .pool) m c .bytes }) (unlessRefused c m (walked ours r m a))
 plain-by r m a (Refused x) e = refl
 plain-by r m a Accepted e =
     let h = ready (length m) r a e in

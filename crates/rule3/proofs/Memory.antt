@@ -33,12 +33,13 @@ use Rattle.lookup.specs.Steps.{decoded, fetched, contextOf, rangeOf, locate}
 use Rattle.lookup.proofs.Decoding.{Alike, decoded-same, aligned8}
 use Rattle.lookup.proofs.Reach.{context-paged, locate-read}
 use Rattle.lookup.proofs.Readers.{AlikeWords, unreachable, values, AlikeEnds, faults, leaves, AlikeTraces, locate-alike}
+use Rattle.vmsa.proofs.Tables.{set-bits, clear-bits}
 use Rattle.decision.specs.Decision.{updated}
-use Rattle.walk.specs.Walk.{poolBytes, traced}
+use Rattle.walk.specs.Walk.{poolBytes, traced, revalued}
 use Rattle.walk.proofs.Parts.{with-put, part-with, length-part}
 use Rattle.walk.proofs.Ends.{Found, found, aligned-zero}
 use Rattle.rules.proofs.Updates.{updated-small}
-use Rattle.tlb.specs.Walker.{Spot, lost, found as foundAt, revalued, putWord}
+use Rattle.tlb.specs.Walker.{Spot, lost, found as foundAt, putWord}
 use Rattle.tlb.specs.Ours.{usable, offsetOf, spotAt, spotOf, located, accessedIn, stamped, ours}
 use Rattle.tlb.proofs.Walking.{usable-sized, usable-root, put-is}
 use Rattle.tlb.proofs.Found.{Where, where-found, in-the-pool}
@@ -93,22 +94,22 @@ alike-updated f d v = by f d
     above-clear x = field-mod (clearBit 7 x) 36 12 ∙ ap (λ (y : ℕ). y % 2 ^ 36) (clear-above 7 x 12 (lit< tt)) ∙ sym (field-mod x 36 12)
 
     flagged : (x : ℕ) → Alike x (setBit 10 x)
-    flagged x = record { bit0 = sym (set-other 10 x 0 (λ e. omega arith)); bit1 = sym (set-other 10 x 1 (λ e. omega arith)); address = sym (above-set x) }
+    flagged x = record { bit0 = sym (set-other 10 x 0 (λ e. omega arith)); bit1 = sym (set-other 10 x 1 (λ e. omega arith)); address = sym (above-set x); tables = sym (set-bits x) }
 
     dirtied : (x : ℕ) → Alike x (clearBit 7 x)
-    dirtied x = record { bit0 = sym (clear-other 7 x 0 (λ e. omega arith)); bit1 = sym (clear-other 7 x 1 (λ e. omega arith)); address = sym (above-clear x) }
+    dirtied x = record { bit0 = sym (clear-other 7 x 0 (λ e. omega arith)); bit1 = sym (clear-other 7 x 1 (λ e. omega arith)); address = sym (above-clear x); tables = sym (clear-bits x) }
 
     then-too : (x y z : ℕ) → Alike x y → Alike y z → Alike x z
-    then-too x y z a b = record { bit0 = a .bit0 ∙ b .bit0; bit1 = a .bit1 ∙ b .bit1; address = a .address ∙ b .address }
+    then-too x y z a b = record { bit0 = a .bit0 ∙ b .bit0; bit1 = a .bit1 ∙ b .bit1; address = a .address ∙ b .address; tables = a .tables ∙ b .tables }
 
     by : (f d : Bool) → Alike v (pick d (clearBit 7 (pick f (setBit 10 v) v)) (pick f (setBit 10 v) v))
     by true true = then-too v (setBit 10 v) (clearBit 7 (setBit 10 v)) (flagged v) (dirtied (setBit 10 v))
     by true false = flagged v
     by false true = dirtied v
-    by false false = record { bit0 = refl; bit1 = refl; address = refl }
+    by false false = record { bit0 = refl; bit1 = refl; address = refl; tables = refl }
 
 alike-self : (v : ℕ) → Alike v v
-alike-self v = record { bit0 = refl; bit1 = refl; address = refl }
+alike-self v = record { bit0 = refl; bit1 = refl; address = refl; tables = refl }
 
 -- ---- a descriptor of the pool updated: the readers before and after
 
@@ -168,14 +169,15 @@ module _ (r : Regime) (pool : List ℕ) (i w : ℕ) (b8 : r .pool .address .0 % 
   traces =
       locate-alike Alike r x
       (λ left v y k. sym (decoded-same (contextOf r x .page) (contextOf r x .limit .0) left v y (context-paged r x .least) k))
+      (λ v y k. sym (k .tables))
       (fetched pool (r .pool .address .0)) (fetched later (r .pool .address .0)) (alike-words pool (r .pool .address .0) i w b8 i8 fits small unseen) (usable-root r x u)
 
   spot-by : (n : ℕ) {e f : End} → AlikeEnds Alike e f → traced r pool x .end ≡ e → traced r later x .end ≡ f
       → spotAt r n f ≡ restamped (r .pool .start + i) w (spotAt r n e)
   spot-by n (faults kind level) p q = refl
-  spot-by n (leaves a left {v = v} {w = y} k) p q =
-      let g = found r pool x a v left (usable-sized r u) (usable-root r x u) p in
-      let h = found r (put pool i w) x a y left (usable-sized r u) (usable-root r x u) q in
+  spot-by n (leaves a left sum {v = v} {w = y} k) p q =
+      let g = found r pool x a (record { value = v; left = left; tables = sum }) (usable-sized r u) (usable-root r x u) p in
+      let h = found r (put pool i w) x a (record { value = y; left = left; tables = sum }) (usable-sized r u) (usable-root r x u) q in
       let j = a - r .pool .address .0 in
       let jl : j + 8 ≤ length pool = omega (arith, g .inside .least, g .inside .most) in
       let j8 : j % 8 ≡ 0 = omega (arith, g .reached .aligned, g .inside .least) in
@@ -187,8 +189,8 @@ module _ (r : Regime) (pool : List ℕ) (i w : ℕ) (b8 : r .pool .address .0 % 
       test j false e = ne-eqb (r .pool .start + j) (r .pool .start + i) (λ z. eqb-false i j e (omega arith))
 
       by : (j : ℕ) (b : Bool) → eqb i j ≡ b → y ≡ pick b w v
-          → foundAt (r .pool .start + j) (record { value = y; left = left }) n
-          ≡ foundAt (r .pool .start + j) (pick (eqb (r .pool .start + j) (r .pool .start + i)) (record { value = w; left = left }) (record { value = v; left = left })) n
+          → foundAt (r .pool .start + j) (record { value = y; left = left; tables = sum }) n
+          ≡ foundAt (r .pool .start + j) (pick (eqb (r .pool .start + j) (r .pool .start + i)) (record { value = w; left = left; tables = sum }) (record { value = v; left = left; tables = sum })) n
       by j true e z = rw (test j true e, z)
       by j false e z = rw (test j false e, z)
 

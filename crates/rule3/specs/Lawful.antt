@@ -15,7 +15,8 @@ use Rattle.vmsa.specs.declared.Leaf.{Leaf}
 use Rattle.checks.specs.declared.Checked.{Checked}
 use Rattle.checks.specs.declared.Checked.the-variants.{Accepted, Refused}
 use Rattle.tlb.specs.Replies.{Reply, refused, Told, told, updates}
-use Rattle.tlb.specs.Walker.{Walker, Spot, lost, found, Walked, andThen, revalued, putWord, walked}
+use Rattle.tlb.specs.Walker.{Walker, Spot, lost, found, Walked, andThen, putWord, walked}
+use Rattle.walk.specs.Walk.{revalued}
 use Rattle.rule3.specs.Rule3.{plainly}
 
 -- what a walk tells, unless its checks refuse it

@@ -2,6 +2,7 @@ pub mod Refusals
 pub mod StepLaws
 pub mod Outcomes
 pub mod Updates
+pub mod Tables
 pub mod Walks
 pub mod Rule1
 pub mod Rule2

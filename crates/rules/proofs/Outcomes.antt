@@ -20,21 +20,16 @@ use Rattle.walk.specs.Walk.{Outcome, traced, applied, walkPool}
 use Rattle.rules.specs.Steps.{step, leafSteps, walkSteps}
 use Rattle.rules.proofs.StepLaws.{Fault, firstFault, endFault, walk-steps}
 
--- a leaf's value and levels left
-abbrev pub leafAt : ℕ → ℕ → Leaf
-leafAt v left = record { value = v; left = left }
-
 -- whether a fault after such an end may be remembered
 abbrev pub endCacheable : End → Bool
 endCacheable (fault kind level) = false
-endCacheable (leaf at v left) = af v
+endCacheable (leaf at l) = af (l .value)
 
 -- no step failed: the trace ends in a leaf
 pub record Passed (r : Regime) (a : Access) (pool : List ℕ) : Type 0 where
   pub address : ℕ
-  pub value : ℕ
-  pub left : ℕ
-  pub ends : traced r pool (a .address .0) .end ≡ leaf address value left
+  pub found : Leaf
+  pub ends : traced r pool (a .address .0) .end ≡ leaf address found
 
 -- the first to fail gave the fault k at level l
 abbrev pub faultOutcome : FaultKind → ℕ → Bool → ℕ → List ℕ → Outcome
@@ -73,19 +68,18 @@ decision-at r a l reads o q = subst (Decided r a l reads (decision r a l reads))
 
 module _ (r : Regime) (a : Access) (pool : List ℕ) where
   -- a leaf none of whose steps fails
-  pub leaf-passes : (address value left : ℕ) → traced r pool (a .address .0) .end ≡ leaf address value left → firstFault (leafSteps r a (leafAt value left)) ≡ none
-      → walkPool r a pool ≡ applied pool (address - r .pool .address .0) (passing r a (leafAt value left) (length (traced r pool (a .address .0) .visited)))
+  pub leaf-passes : (address : ℕ) (l : Leaf) → traced r pool (a .address .0) .end ≡ leaf address l → firstFault (leafSteps r a l) ≡ none
+      → walkPool r a pool ≡ applied pool (address - r .pool .address .0) (passing r a l (length (traced r pool (a .address .0) .visited)))
   unfolding walkPool
-  leaf-passes address value left e q =
-      let d = decision-at r a (leafAt value left) (length (traced r pool (a .address .0) .visited)) none q in
+  leaf-passes address l e q =
+      let d = decision-at r a l (length (traced r pool (a .address .0) .visited)) none q in
       rw (e, d)
 
-  leaf-outcome : (address value left : ℕ) → traced r pool (a .address .0) .end ≡ leaf address value left
-      → (o : Option Fault) → firstFault (leafSteps r a (leafAt value left)) ≡ o → ByFault r a pool o
+  leaf-outcome : (address : ℕ) (l : Leaf) → traced r pool (a .address .0) .end ≡ leaf address l → (o : Option Fault) → firstFault (leafSteps r a l) ≡ o → ByFault r a pool o
   unfolding walkPool failing
-  leaf-outcome address value left e none q = record { address = address; value = value; left = left; ends = e }
-  leaf-outcome address value left e (some f) q =
-      let d = decision-at r a (leafAt value left) (length (traced r pool (a .address .0) .visited)) (some f) q in
+  leaf-outcome address l e none q = record { address = address; found = l; ends = e }
+  leaf-outcome address l e (some f) q =
+      let d = decision-at r a l (length (traced r pool (a .address .0) .visited)) (some f) q in
       rw (e, d .0, d .1)
 
   pub pool-outcome : ByFault r a pool (firstFault (walkSteps r a pool))
@@ -94,7 +88,7 @@ module _ (r : Regime) (a : Access) (pool : List ℕ) where
     where
       by : (e : End) → traced r pool (a .address .0) .end ≡ e → ByFault r a pool (endFault r a e)
       by (fault kind level) q = rw q
-      by (leaf address value left) q = leaf-outcome address value left q (firstFault (leafSteps r a (leafAt value left))) refl
+      by (leaf address l) q = leaf-outcome address l q (firstFault (leafSteps r a l)) refl
 
   pub pool-by : (o : Option Fault) → firstFault (walkSteps r a pool) ≡ o → ByFault r a pool o
   pool-by o q = subst (ByFault r a pool) q pool-outcome

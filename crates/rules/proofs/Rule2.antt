@@ -14,8 +14,8 @@ use Rattle.descriptor.proofs.Tests.{differ, pick-both}
 use Rattle.descriptor.proofs.Laws.{desc-put}
 use Rattle.vmsa.specs.Limits.{pageBits}
 use Rattle.geometry.specs.Geometry.{levelOf, outputBits, outputLimit}
-use Rattle.vmsa.specs.Kinds.{writes}
-use Rattle.vmsa.specs.Fields.{af, ap2}
+use Rattle.vmsa.specs.Kinds.{asksWrite, writes}
+use Rattle.vmsa.specs.Fields.{af, ap2, noWriteBelow}
 use Rattle.vmsa.specs.Answers.{Faulted, success, fault as faulted, codeOf}
 use Rattle.vmsa.specs.declared.Regime.{Regime}
 use Rattle.vmsa.specs.declared.Access.{Access}
@@ -28,18 +28,20 @@ use Rattle.lookup.specs.Trace.{End, fault, leaf}
 use Rattle.lookup.specs.Steps.{contextOf, fetched}
 use Rattle.lookup.proofs.Decoding.{is-leaf, output-below}
 use Rattle.lookup.proofs.Reach.{locate-visited}
-use Rattle.permission.specs.Permission.{attributeOf}
+use Rattle.permission.specs.Permission.{attributeOf, writable}
 use Rattle.decision.specs.Decision.{flagDue, dirtyDue, updated, cacheable, outputOf}
 use Rattle.walk.specs.Walk.{walk, traced, poolBytes}
 use Rattle.walk.proofs.Ends.{ready}
 use Rattle.rules.specs.Steps.{AllPass, FirstFails, leafSteps}
-use Rattle.rules.specs.Rule2.{stepsOf, traceOf, LeafOf, offset, valueAfter, Placed, Right, FlagUpdate, DirtyUpdate, Marked, Rule2}
+use Rattle.rules.specs.Tables.{traceOf}
+use Rattle.rules.specs.Rule2.{stepsOf, LeafOf, offset, valueAfter, leafAfter, Placed, Right, FlagUpdate, DirtyUpdate, Marked, Rule2}
 use Rattle.walk.proofs.Parts.{getD-put}
 use Rattle.descriptor.proofs.Numbers.{desc-small}
 use Rattle.geometry.proofs.Geometry.{least-output}
 use Rattle.rules.proofs.StepLaws.{Fault, firstFault, passes-none, fails-some, none-passes, some-fails}
 use Rattle.rules.proofs.Outcomes.{endCacheable}
-use Rattle.rules.proofs.Updates.{updated-none, updated-other, updated-af, updated-ap2, updated-small, writes-asks, flag-due, dirty-due, probe-due, leaf-clear, flag-after, write-writable, dirty-after, leaf-kind}
+use Rattle.rules.proofs.Updates.{updated-none, updated-other, updated-af, updated-ap2, updated-small, writes-asks, flag-due, dirty-due, probe-due, leaf-clear, flag-after, write-writable, dirty-after, none-dirty, none-asks, still-writable, leaf-kind}
+use Rattle.rules.proofs.Tables.{leaf-sum, bare-walk}
 use Rattle.rules.proofs.Walks.{readsOf, leafIn, told, updatedLeaf, passed-leaf, leaf-first, passed-result, failed-result, failed-bytes, success-taken, fault-taken, success-none, success-leaf, faultOf, fault-some, leaf-found, leaf-placed, success-told, success-bytes}
 
 module _ (r : Regime) (a : Access) (m : List ℕ) where
@@ -92,8 +94,8 @@ module _ (r : Regime) (a : Access) (m : List ℕ) where
           → (l : LeafOf r a m) × (af (l .value) ≡ true)
           × (FirstFails (stepsOf r a m) Alignment (levelOf (l .left)) ⊎ FirstFails (stepsOf r a m) Permission (levelOf (l .left)))
       by g p (fault kind level) i h = differ (sym h)
-      by g p (leaf address value left) i h =
-          let l : LeafOf r a m = record { address = address; value = value; left = left; reached = i } in
+      by g p (leaf address x) i h =
+          let l : LeafOf r a m = record { address = address; value = x .value; left = x .left; tables = x .tables; reached = i } in
           let j : firstFault (leafSteps r a (leafIn l)) ≡ some g = leaf-first r a m l ∙ p in
           (l, h, kinds g l p (leaf-kind r a (leafIn l) h g j))
 
@@ -125,6 +127,12 @@ module _ (r : Regime) (a : Access) (m : List ℕ) where
           let f = leaf-found r a m (success-taken r a m s e) l in
           rw (is-right .output) (output-below pageBits (outputBits (r .output)) (l .left) (l .value) (a .address .0) (lit≤ tt) (least-output (r .output))
           (is-leaf pageBits (2 ^ outputBits (r .output)) (l .left) (l .value) (f .reached .leads)))
+
+      -- under a table with bit 62
+      is-read-only : noWriteBelow (l .tables) ≡ true → (asksWrite (a .kind) ≡ false) × (s .dirtied ≡ false)
+      is-read-only h =
+          let c = leaf-clear r a (leafIn l) (leaf-first r a m l ∙ success-none r a m s e) in
+          (none-asks r a (leafIn l) h (c .2), ap (λ (x : Success). x .dirtied) (success-told r a m s e l) ∙ none-dirty r a (leafIn l) h)
 
       fits : offset l + 8 ≤ length m
       fits =
@@ -188,10 +196,12 @@ module _ (r : Regime) (a : Access) (m : List ℕ) where
           cacheable = ap (λ (x : Success). x .cacheable) (success-told r a m s e l) ∙ or-comm (af (l .value)) (flagDue r a (leafIn l)) ∙ sym af-after;
         }
 
-        is-written : writes (a .kind) ≡ true → (af (valueAfter l) ≡ true) × (ap2 (valueAfter l) ≡ false)
+        is-written : writes (a .kind) ≡ true → (af (valueAfter l) ≡ true) × (ap2 (valueAfter l) ≡ false) × (writable r (leafAfter l) ≡ true)
         is-written w =
             let c = leaf-clear r a (leafIn l) (leaf-first r a m l ∙ success-none r a m s e) in
-            (is-marked .accessed (writes-asks (a .kind) w .0), ap2-after ∙ dirty-after r a (leafIn l) (write-writable r a (leafIn l) (c .2) w) w)
+            let k = write-writable r a (leafIn l) (c .2) w in
+            let z = ap2-after ∙ dirty-after r a (leafIn l) k w in
+            (is-marked .accessed (writes-asks (a .kind) w .0), z, still-writable r a (leafIn l) (valueAfter l) k z)
 
 pub rule2 : Rule2
 rule2 = record {
@@ -203,6 +213,9 @@ rule2 = record {
   right = is-right;
   marked = λ r a m s e h l. is-marked r a m s e l h;
   written = λ r a m s e h w l. is-written r a m s e l h w;
+  sum = λ r a m l. leaf-sum r a m (l .address) (leafIn l) (l .reached);
+  bare = bare-walk;
+  readOnly = λ r a m s e l h. (is-read-only r a m s e l h);
   below = λ r a m s e. output-small r a m s e (success-leaf r a m s e);
   successReads = success-counts;
   faultReads = fault-counts;

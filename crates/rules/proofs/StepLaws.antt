@@ -9,6 +9,7 @@ use lib.Dec.{leb, eqb}
 use Rattle.descriptor.specs.Bits.{pick, bit}
 use Rattle.descriptor.proofs.Tests.{differ, and-true}
 use Rattle.vmsa.specs.Limits.{pageBits}
+use Rattle.vmsa.specs.Fields.{withTable}
 use Rattle.geometry.specs.Geometry.{levelOf, firstLeft, outputLimit}
 use Rattle.vmsa.specs.declared.Regime.{Regime}
 use Rattle.vmsa.specs.declared.Access.{Access}
@@ -19,10 +20,10 @@ use Rattle.lookup.specs.declared.Word.{Word}
 use Rattle.lookup.specs.declared.Word.the-variants.{Value, Unreachable}
 use Rattle.lookup.specs.declared.Next.the-variants as next
 use Rattle.lookup.specs.declared.Context.{Context}
-use Rattle.lookup.specs.Trace.{End, fault, leaf, Trace, ended}
-use Rattle.lookup.specs.Steps.{invalid, isTable, addressIn, decoded, fetched, onward, onWord, followed, entryAt, entered, descend, rangeOf, outside, contextOf, locate}
+use Rattle.lookup.specs.Trace.{End, fault, leaf, Trace, ended, countedEnd, counted}
+use Rattle.lookup.specs.Steps.{invalid, isTable, addressIn, decoded, fetched, onward, onWord, followed, entryAt, entered, descend, rangeOf, outside, contextOf, noTables, locate}
 use Rattle.walk.specs.Walk.{traced}
-use Rattle.rules.specs.Steps.{Step, step, AllPass, FirstFails, done, pass, here, later, leafSteps, descriptorSteps, entrySteps, levelSteps, walkSteps}
+use Rattle.rules.specs.Steps.{Step, step, AllPass, FirstFails, done, pass, here, later, leafSteps, leafUnder, descriptorSteps, entrySteps, levelSteps, walkSteps}
 
 -- the fault of the first step that fails
 abbrev pub Fault : Type 0
@@ -69,25 +70,28 @@ module _ (r : Regime) (a : Access) where
   -- the fault that an end of steps 1 to 5 comes to
   abbrev pub endFault : End → Option Fault
   endFault (fault kind level) = some (kind, level)
-  endFault (leaf at v left) = firstFault (leafSteps r a (record { value = v; left = left }))
+  endFault (leaf at l) = firstFault (leafSteps r a l)
+
+  hpd : Bool
+  hpd = rangeOf r (a .address .0) .hpd
 
   module _ (c : Context) where
-    descriptor-steps : (below : ℕ → List Step) (goes : ℕ → Trace) (left at v : ℕ) → ((t : ℕ) → isTable left v ≡ true → firstFault (below t) ≡ endFault (goes t .end))
-        → firstFault (descriptorSteps r a c below left v) ≡ endFault (followed c goes left at v .end)
-    unfolding descriptorSteps followed decoded
-    descriptor-steps below goes left at v h = by (invalid (c .page) left v) (leb (c .limit .0) (addressIn (c .page) left v)) (isTable left v) refl
+    descriptor-steps : (below : ℕ → ℕ → List Step) (goes : ℕ → ℕ → Trace) (sum left at v : ℕ) → ((s t : ℕ) → isTable left v ≡ true → firstFault (below s t) ≡ endFault (countedEnd hpd (goes s t .end)))
+        → firstFault (descriptorSteps r a c below sum left v) ≡ endFault (countedEnd hpd (followed c goes sum left at v .end))
+    unfolding descriptorSteps followed decoded hpd
+    descriptor-steps below goes sum left at v h = by (invalid (c .page) left v) (leb (c .limit .0) (addressIn (c .page) left v)) (isTable left v) refl
       where
         by : (i x t : Bool) → isTable left v ≡ t
             → firstFault
             (step i Translation (levelOf left)
             ∷ step x AddressSize (levelOf left)
-            ∷ pick t (below (addressIn (c .page) left v)) (leafSteps r a (record { value = v; left = left })))
-            ≡ endFault
-            (onward goes left at v (pick i (next.Fault Translation) (pick x (next.Fault AddressSize) (pick t (next.Table (record { 0 = addressIn (c .page) left v })) next.Leaf)))
-            .end)
+            ∷ pick t (below (withTable sum v) (addressIn (c .page) left v)) (leafSteps r a (leafUnder r a sum left v)))
+            ≡ endFault (countedEnd (rangeOf r (a .address .0) .hpd)
+            (onward goes sum left at v (pick i (next.Fault Translation) (pick x (next.Fault AddressSize) (pick t (next.Table (record { 0 = addressIn (c .page) left v })) next.Leaf)))
+            .end))
         by true x t e = refl
         by false true t e = refl
-        by false false true e = h (addressIn (c .page) left v) e
+        by false false true e = h (withTable sum v) (addressIn (c .page) left v) e
         by false false false e = refl
 
     no-table : (v : ℕ) → isTable 0 v ≡ true → ⊥
@@ -95,22 +99,23 @@ module _ (r : Regime) (a : Access) where
     no-table v e = differ (sym (and-true (bit 1 v) (not (eqb 0 0)) e .1))
 
     module _ (read : ℕ → Word) where
-      entry-steps : (below : ℕ → List Step) (goes : ℕ → Trace) (left table : ℕ)
-          → ((v t : ℕ) → isTable left v ≡ true → firstFault (below t) ≡ endFault (goes t .end))
-          → firstFault (entrySteps r a c below left (read (entryAt c left table))) ≡ endFault (entered c read goes left table .end)
+      entry-steps : (below : ℕ → ℕ → List Step) (goes : ℕ → ℕ → Trace) (left sum table : ℕ)
+          → ((v s t : ℕ) → isTable left v ≡ true → firstFault (below s t) ≡ endFault (countedEnd hpd (goes s t .end)))
+          → firstFault (entrySteps r a c below sum left (read (entryAt c left table))) ≡ endFault (countedEnd hpd (entered c read goes left sum table .end))
       unfolding entered
-      entry-steps below goes left table h = by (read (entryAt c left table))
+      entry-steps below goes left sum table h = by (read (entryAt c left table))
         where
           by : (w : Word)
-              → firstFault (entrySteps r a c below left w) ≡ endFault (onWord (ended (fault ExternalAbort (levelOf left))) (followed c goes left (entryAt c left table)) w .end)
-          by (Value v) = descriptor-steps below goes left (entryAt c left table) v (h v)
+              → firstFault (entrySteps r a c below sum left w)
+              ≡ endFault (countedEnd hpd (onWord (ended (fault ExternalAbort (levelOf left))) (followed c goes sum left (entryAt c left table)) w .end))
+          by (Value v) = descriptor-steps below goes sum left (entryAt c left table) v (h v)
           by Unreachable = refl
 
       -- any number of levels from a table on
-      level-steps : (n table : ℕ) → firstFault (levelSteps r a c read (suc n) table) ≡ endFault (descend c read (suc n) table .end)
+      level-steps : (n sum table : ℕ) → firstFault (levelSteps r a c read (suc n) sum table) ≡ endFault (countedEnd hpd (descend c read (suc n) sum table .end))
       unfolding levelSteps descend
-      level-steps zero table = entry-steps (levelSteps r a c read zero) (descend c read zero) zero table (λ v t e. absurd (no-table v e))
-      level-steps (suc n) table = entry-steps (levelSteps r a c read (suc n)) (descend c read (suc n)) (suc n) table (λ v t e. level-steps n t)
+      level-steps zero sum table = entry-steps (levelSteps r a c read zero) (descend c read zero) zero sum table (λ v s t e. absurd (no-table v e))
+      level-steps (suc n) sum table = entry-steps (levelSteps r a c read (suc n)) (descend c read (suc n)) (suc n) sum table (λ v s t e. level-steps n s t)
 
   -- step 1, and what follows it
   range-steps : (off beyond : Bool) (steps : List Step) (t : Trace) → firstFault steps ≡ endFault (t .end)
@@ -121,12 +126,12 @@ module _ (r : Regime) (a : Access) where
   range-steps false false steps t h = h
 
   pub walk-steps : (pool : List ℕ) → firstFault (walkSteps r a pool) ≡ endFault (traced r pool (a .address .0) .end)
-  unfolding walkSteps traced locate
+  unfolding walkSteps traced locate hpd
   walk-steps pool =
       let range = rangeOf r (a .address .0) in
       let c = contextOf r (a .address .0) in
       let read = fetched pool (r .pool .address .0) in
       let n = firstLeft pageBits (range .tsz) in
       let root = range .root .0 in
-      range-steps (range .disabled || outside (range .tsz) (a .address .0)) (leb (outputLimit (r .output)) root) (levelSteps r a c read (suc n) root)
-      (descend c read (suc n) root) (level-steps c read n root)
+      range-steps (range .disabled || outside (range .tsz) (a .address .0)) (leb (outputLimit (r .output)) root) (levelSteps r a c read (suc n) noTables root)
+      (counted (range .hpd) (descend c read (suc n) noTables root)) (level-steps c read n noTables root)

@@ -13,7 +13,7 @@ use Rattle.descriptor.proofs.Tests.{differ, and-true, or-false}
 use Rattle.descriptor.proofs.BitLaws.{set-bit, clear-bit, set-other, clear-other, set-small, clear-small}
 use Rattle.geometry.specs.Geometry.{levelOf}
 use Rattle.vmsa.specs.Kinds.{isFetch, isProbe, asksWrite, writes}
-use Rattle.vmsa.specs.Fields.{af, ap2, dbm}
+use Rattle.vmsa.specs.Fields.{af, ap2, dbm, noWriteBelow}
 use Rattle.vmsa.specs.declared.Regime.{Regime}
 use Rattle.vmsa.specs.declared.Access.{Access}
 use Rattle.vmsa.specs.declared.AccessKind.{AccessKind}
@@ -22,6 +22,7 @@ use Rattle.vmsa.specs.declared.Leaf.{Leaf}
 use Rattle.vmsa.specs.declared.FaultKind.the-variants.{AccessFlag, Permission, Alignment}
 use Rattle.permission.specs.Permission.{writable, clean, mayRead, mayWrite, permitted, flagFails, alignmentFails, permissionFails}
 use Rattle.decision.specs.Decision.{flagDue, dirtyDue, updated}
+use Rattle.walk.specs.Walk.{revalued}
 use Rattle.rules.specs.Steps.{step, leafSteps}
 use Rattle.rules.proofs.StepLaws.{Fault, firstFault, no-fault}
 
@@ -70,6 +71,14 @@ writes-asks Fetch e = differ (sym e)
 writes-asks ProbeRead e = differ (sym e)
 writes-asks ProbeWrite e = differ (sym e)
 
+asks-no-fetch : (k : AccessKind) → asksWrite k ≡ true → isFetch k ≡ false
+asks-no-fetch Read e = refl
+asks-no-fetch Write e = refl
+asks-no-fetch Update e = refl
+asks-no-fetch Fetch e = differ (sym e)
+asks-no-fetch ProbeRead e = refl
+asks-no-fetch ProbeWrite e = refl
+
 pub probe-writes : (k : AccessKind) → isProbe k ≡ true → writes k ≡ false
 probe-writes Read e = differ (sym e)
 probe-writes Write e = differ (sym e)
@@ -94,9 +103,10 @@ module _ (r : Regime) (a : Access) (l : Leaf) where
       → (r .ha ≡ true) × (r .hd ≡ true) × (dbm (l .value) ≡ true) × (writes (a .kind) ≡ true) × (ap2 (l .value) ≡ true)
   unfolding dirtyDue clean writable
   dirty-due e =
-      let s = and-true (writes (a .kind)) (ap2 (l .value) && (not (ap2 (l .value)) || dbm (l .value) && r .ha && r .hd)) e in
-      let t = and-true (ap2 (l .value)) (not (ap2 (l .value)) || dbm (l .value) && r .ha && r .hd) (s .1) in
-      let w : (dbm (l .value) && r .ha && r .hd) ≡ true = rw (t .0) at (t .1) in
+      let s = and-true (writes (a .kind)) (ap2 (l .value) && (not (noWriteBelow (l .tables)) && (not (ap2 (l .value)) || dbm (l .value) && r .ha && r .hd))) e in
+      let t = and-true (ap2 (l .value)) (not (noWriteBelow (l .tables)) && (not (ap2 (l .value)) || dbm (l .value) && r .ha && r .hd)) (s .1) in
+      let u = and-true (not (noWriteBelow (l .tables))) (not (ap2 (l .value)) || dbm (l .value) && r .ha && r .hd) (t .1) in
+      let w : (dbm (l .value) && r .ha && r .hd) ≡ true = rw (t .0) at (u .1) in
       let x = and-true (dbm (l .value) && r .ha) (r .hd) w in
       let y = and-true (dbm (l .value)) (r .ha) (x .0) in
       (y .1, x .1, y .0, s .0, t .0)
@@ -130,13 +140,15 @@ module _ (r : Regime) (a : Access) (l : Leaf) where
       by false true q = refl
       by false false q = differ q
 
-  -- a write that is permitted finds the leaf writable, and leaves AP[2] 0
-  pub write-writable : permissionFails r a l ≡ false → writes (a .kind) ≡ true → writable r l ≡ true
+  -- what asks for a write and is permitted finds the leaf writable; a write leaves AP[2] 0
+  pub asks-writable : permissionFails r a l ≡ false → asksWrite (a .kind) ≡ true → writable r l ≡ true
   unfolding permissionFails permitted mayWrite
-  write-writable e w =
-      let k = writes-asks (a .kind) w in
-      let s : not (mayRead (a .el0) l && writable r l) ≡ false = or-false (not (mayRead (a .el0) l && writable r l)) false (rw (k .1, k .2) at e) .0 in
+  asks-writable e w =
+      let s : not (mayRead (a .el0) l && writable r l) ≡ false = or-false (not (mayRead (a .el0) l && writable r l)) false (rw (asks-no-fetch (a .kind) w, w) at e) .0 in
       and-true (mayRead (a .el0) l) (writable r l) (not-false (mayRead (a .el0) l && writable r l) s) .1
+
+  pub write-writable : permissionFails r a l ≡ false → writes (a .kind) ≡ true → writable r l ≡ true
+  write-writable e w = asks-writable e (writes-asks (a .kind) w .2)
 
   pub dirty-after : writable r l ≡ true → writes (a .kind) ≡ true → (not (dirtyDue r a l) && ap2 (l .value)) ≡ false
   unfolding dirtyDue clean
@@ -145,6 +157,32 @@ module _ (r : Regime) (a : Access) (l : Leaf) where
       by : (b : Bool) → (not (true && (b && true)) && b) ≡ false
       by true = refl
       by false = refl
+
+  -- ---- under a table with bit 62
+
+  -- nothing may be written
+  pub none-writable : noWriteBelow (l .tables) ≡ true → writable r l ≡ false
+  unfolding writable
+  none-writable e = rw e
+
+  pub none-dirty : noWriteBelow (l .tables) ≡ true → dirtyDue r a l ≡ false
+  unfolding dirtyDue clean
+  none-dirty e = rw (none-writable e, and-false (ap2 (l .value))) (and-false (writes (a .kind)))
+
+  pub none-asks : noWriteBelow (l .tables) ≡ true → permissionFails r a l ≡ false → asksWrite (a .kind) ≡ false
+  none-asks e p = by (asksWrite (a .kind)) refl
+    where
+      by : (b : Bool) → asksWrite (a .kind) ≡ b → b ≡ false
+      by true q = differ (sym (asks-writable p q) ∙ none-writable e)
+      by false q = refl
+
+  -- a leaf with W is left with it, where AP[2] is left 0
+  pub still-writable : (v : ℕ) → writable r l ≡ true → ap2 v ≡ false → writable r (revalued l v) ≡ true
+  unfolding writable
+  still-writable v e z = rw z (by (not (noWriteBelow (l .tables))) (not (ap2 (l .value)) || dbm (l .value) && r .ha && r .hd) e)
+    where
+      by : (x y : Bool) → (x && y) ≡ true → (x && (true || dbm v && r .ha && r .hd)) ≡ true
+      by x y e = rw (and-true x y e .0)
 
   -- ---- a leaf with AF 1 fails by step 7 or 8
 

@@ -32,17 +32,18 @@ use Rattle.decision.specs.Decision.{flagDue, dirtyDue, updated, cacheable, outp
 use Rattle.walk.specs.Walk.{Outcome, poolBytes, withPoolBytes, applied, walkPool, walk}
 use Rattle.walk.proofs.Ends.{Found, found, ready, aligned-zero}
 use Rattle.rules.specs.Steps.{leafSteps}
-use Rattle.rules.specs.Rule2.{stepsOf, traceOf, LeafOf, offset, Placed}
+use Rattle.rules.specs.Tables.{traceOf}
+use Rattle.rules.specs.Rule2.{stepsOf, LeafOf, offset, Placed}
 use Rattle.walk.proofs.Parts.{with-own, with-put, length-part, desc-part}
 use Rattle.rules.proofs.StepLaws.{Fault, firstFault, endFault, walk-steps}
-use Rattle.rules.proofs.Outcomes.{leafAt, endCacheable, leaf-passes, pool-by}
+use Rattle.rules.proofs.Outcomes.{endCacheable, leaf-passes, pool-by}
 
 -- the count of reads of an access, and what its leaf says
 abbrev pub readsOf : Regime → Access → List ℕ → ℕ
 readsOf r a m = length (traceOf r a m .visited)
 
 abbrev pub leafIn : {r : Regime} {a : Access} {m : List ℕ} → LeafOf r a m → Leaf
-leafIn l = leafAt (l .value) (l .left)
+leafIn l = record { value = l .value; left = l .left; tables = l .tables }
 
 -- what a success is told of its leaf
 abbrev pub told : Regime → Access → Leaf → ℕ → Success
@@ -81,10 +82,10 @@ module _ (r : Regime) (a : Access) (m : List ℕ) where
   -- ---- where a leaf lies
 
   module _ (c : walkCheck (length m) r a ≡ Accepted) where
-    pub leaf-found : (l : LeafOf r a m) → Found r (poolBytes (r .pool) m) (a .address .0) (l .address) (l .value) (l .left)
+    pub leaf-found : (l : LeafOf r a m) → Found r (poolBytes (r .pool) m) (a .address .0) (l .address) (leafIn l)
     leaf-found l =
         let h = ready (length m) r a c in
-        found r (poolBytes (r .pool) m) (a .address .0) (l .address) (l .value) (l .left) (h .sized) (h .root) (l .reached)
+        found r (poolBytes (r .pool) m) (a .address .0) (l .address) (leafIn l) (h .sized) (h .root) (l .reached)
 
     pool-long : length (poolBytes (r .pool) m) ≡ r .pool .length
     pool-long = length-part m (r .pool .start) (r .pool .length) (ready (length m) r a c .fits)
@@ -115,7 +116,8 @@ module _ (r : Regime) (a : Access) (m : List ℕ) where
   pub passed-leaf : firstFault (stepsOf r a m) ≡ none → LeafOf r a m
   passed-leaf q =
       let p = pool-by r a (poolBytes (r .pool) m) none q in
-      record { address = p .address; value = p .value; left = p .left; reached = p .ends }
+      let l = p .found in
+      record { address = p .address; value = l .value; left = l .left; tables = l .tables; reached = p .ends }
 
   -- the first failing step of a walk that ends in a leaf is the leaf's
   pub leaf-first : (l : LeafOf r a m) → firstFault (leafSteps r a (leafIn l)) ≡ firstFault (stepsOf r a m)
@@ -123,7 +125,7 @@ module _ (r : Regime) (a : Access) (m : List ℕ) where
 
   passed-pool : firstFault (stepsOf r a m) ≡ none → (l : LeafOf r a m)
       → walkPool r a (poolBytes (r .pool) m) ≡ applied (poolBytes (r .pool) m) (l .address - r .pool .address .0) (passing r a (leafIn l) (readsOf r a m))
-  passed-pool q l = leaf-passes r a (poolBytes (r .pool) m) (l .address) (l .value) (l .left) (l .reached) (leaf-first l ∙ q)
+  passed-pool q l = leaf-passes r a (poolBytes (r .pool) m) (l .address) (leafIn l) (l .reached) (leaf-first l ∙ q)
 
   -- the fault of a step
   abbrev pub faultOf : Fault → Faulted

@@ -1,4 +1,5 @@
 pub mod Rule1
 pub mod Steps
+pub mod Tables
 pub mod Rule2
 pub mod Code

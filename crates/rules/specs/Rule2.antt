@@ -6,37 +6,40 @@ use mathlib.Core.Logic.{_⊎_, _↔_, _≢_}
 use mathlib.Core.Path.{_≡_}
 use lib.ListN.{length, getD}
 use Rattle.descriptor.specs.Bytes.{Bytes, desc}
-use Rattle.descriptor.specs.Bits.{bit}
+use Rattle.descriptor.specs.Bits.{pick, bit}
 use Rattle.vmsa.specs.Limits.{pageBits}
 use Rattle.geometry.specs.Geometry.{levelOf, span, cut, outputLimit}
-use Rattle.vmsa.specs.Kinds.{isProbe, writes}
+use Rattle.vmsa.specs.Kinds.{isProbe, asksWrite, writes}
 use Rattle.vmsa.specs.Attributes.{attribute as attributeByte}
-use Rattle.vmsa.specs.Fields.{attributeIndex, shareability as shareabilityOf, nonglobal as nonglobalOf, af, ap2, dbm}
+use Rattle.vmsa.specs.Fields.{attributeIndex, shareability as shareabilityOf, nonglobal as nonglobalOf, af, ap2, dbm, noWriteBelow}
 use Rattle.vmsa.specs.Answers.{Faulted, success, fault as faulted, codeOf}
 use Rattle.vmsa.specs.declared.Regime.{Regime}
 use Rattle.vmsa.specs.declared.Access.{Access}
+use Rattle.vmsa.specs.declared.Leaf.{Leaf}
 use Rattle.vmsa.specs.declared.Success.{Success}
 use Rattle.vmsa.specs.declared.FaultKind.{FaultKind}
 use Rattle.vmsa.specs.declared.FaultKind.the-variants.{Permission, Alignment}
 use Rattle.checks.specs.declared.Checked.the-variants.{Accepted}
 use Rattle.checks.specs.Order.{walkCheck}
-use Rattle.lookup.specs.Trace.{Trace, leaf}
-use Rattle.walk.specs.Walk.{walk, traced, poolBytes}
+use Rattle.lookup.specs.Trace.{leaf}
+use Rattle.lookup.specs.Sum.{sumAlong}
+use Rattle.lookup.specs.Steps.{rangeOf, noTables}
+use Rattle.permission.specs.Permission.{writable}
+use Rattle.walk.specs.Walk.{walk, poolBytes}
 use Rattle.rules.specs.Steps.{Step, AllPass, FirstFails, walkSteps}
+use Rattle.rules.specs.Tables.{traceOf, readerOf, TablesOff, TablesClear, bareWalk}
 
--- the steps of an access, and its trace: the list of descriptor addresses visited, and the end, a fault or a leaf
+-- the steps of an access
 abbrev pub stepsOf : Regime → Access → List ℕ → List Step
 stepsOf r a m = walkSteps r a (poolBytes (r .pool) m)
 
-abbrev pub traceOf : Regime → Access → List ℕ → Trace
-traceOf r a m = traced r (poolBytes (r .pool) m) (a .address .0)
-
--- the one leaf of an access, where its trace ends in one: the address and value of its descriptor, and the levels left below it
+-- the one leaf of an access, where its trace ends in one: the address and value of its descriptor, the levels left below it, and the sum of the tables above it
 pub record LeafOf (r : Regime) (a : Access) (m : List ℕ) : Type 0 where
   pub address : ℕ
   pub value : ℕ
   pub left : ℕ
-  pub reached : traceOf r a m .end ≡ leaf address value left
+  pub tables : ℕ
+  pub reached : traceOf r a m .end ≡ leaf address (record { value = value; left = left; tables = tables })
 
 -- where its descriptor lies in the memory: at start + address - pool address
 abbrev pub offset : {r : Regime} {a : Access} {m : List ℕ} → LeafOf r a m → ℕ
@@ -45,6 +48,10 @@ offset {r} l = r .pool .start + (l .address - r .pool .address .0)
 -- the value of its descriptor after the walk
 abbrev pub valueAfter : {r : Regime} {a : Access} {m : List ℕ} → LeafOf r a m → ℕ
 valueAfter {r} {a} {m} l = desc (walk r a m .bytes) (offset l)
+
+-- the leaf as the walk left it
+abbrev pub leafAfter : {r : Regime} {a : Access} {m : List ℕ} → LeafOf r a m → Leaf
+leafAfter l = record { value = valueAfter l; left = l .left; tables = l .tables }
 
 -- the leaf's descriptor lies wholly in the pool, at a multiple of 8, and is what the walk read
 pub record Placed {r : Regime} {a : Access} {m : List ℕ} (l : LeafOf r a m) : Type 0 where
@@ -103,9 +110,17 @@ pub record Rule2 : Type 0 where
   pub right : (r : Regime) (a : Access) (m : List ℕ) (s : Success) → walk r a m .result ≡ success s → (l : LeafOf r a m) → Right l s
   -- it changes at most bits 10 and 7 of the one leaf descriptor, only where those updates are switched on
   pub marked : (r : Regime) (a : Access) (m : List ℕ) (s : Success) → walk r a m .result ≡ success s → Bytes m → (l : LeafOf r a m) → Marked l s
-  -- a written page ends writable with its Access flag set
+  -- a written page ends writable, by W and by its AP[2], with its Access flag set
   pub written : (r : Regime) (a : Access) (m : List ℕ) (s : Success) → walk r a m .result ≡ success s → Bytes m → writes (a .kind) ≡ true
-      → (l : LeafOf r a m) → (af (valueAfter l) ≡ true) × (ap2 (valueAfter l) ≡ false)
+      → (l : LeafOf r a m) → (af (valueAfter l) ≡ true) × (ap2 (valueAfter l) ≡ false) × (writable r (leafAfter l) ≡ true)
+  -- a leaf stands under the sum of the tables visited on the way; where HPD is on, under none (RULES 6.11)
+  pub sum : (r : Regime) (a : Access) (m : List ℕ) (l : LeafOf r a m)
+      → l .tables ≡ pick (rangeOf r (a .address .0) .hpd) 0 (sumAlong (readerOf r m) noTables (traceOf r a m .visited))
+  -- where HPD is on, or no table on the way has one of these bits, answer and bytes are those of the rules in which they have no say
+  pub bare : (r : Regime) (a : Access) (m : List ℕ) → TablesOff r a ⊎ TablesClear r a m → walk r a m ≡ bareWalk r a m
+  -- a success under a table with bit 62 asked for no write, and made nothing dirty
+  pub readOnly : (r : Regime) (a : Access) (m : List ℕ) (s : Success) → walk r a m .result ≡ success s → (l : LeafOf r a m) → noWriteBelow (l .tables) ≡ true
+      → (asksWrite (a .kind) ≡ false) × (s .dirtied ≡ false)
   -- every output address is below 2 to the output size (RULES 9.4)
   pub below : (r : Regime) (a : Access) (m : List ℕ) (s : Success) → walk r a m .result ≡ success s → s .output .0 < outputLimit (r .output)
   -- the count of reads is the length of the list of descriptor addresses visited, and at most 4 (RULES 9.3): for a success,

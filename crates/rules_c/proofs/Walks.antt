@@ -11,8 +11,8 @@ use Rattle.vmsa.specs.declared.RegimeWords.{RegimeWords}
 use Rattle.vmsa.specs.declared.Access.{Access}
 use Rattle.checks.specs.declared.Checked.the-variants.{Accepted}
 use Rattle.checks.specs.Order.{walkCheck}
-use Rattle.walk.specs.Walk.{walk, poolBytes}
-use Rattle.rules.specs.Rule2.{traceOf}
+use Rattle.walk.specs.Walk.{Outcome, walk, poolBytes}
+use Rattle.rules.specs.Tables.{traceOf, bareWalk}
 use Rattle.rules.proofs.Rule1.{rule1}
 use Rattle.rules.proofs.Rule2.{rule2}
 use Rattle.tlb.specs.Replies.{Told, told}
@@ -87,6 +87,8 @@ module _ (m : List ℕ) (g : RegimeWords) (a : AccessWords) where
         cacheable = λ t b l. rule2 .marked R A m (successIn w) (succeeded t) b l .cacheable;
         fault-cacheable = λ t. rule2 .faultCacheable R A m (faultIn w) (of-fault w x refl t);
         written = λ t b k l. rule2 .written R A m (successIn w) (succeeded t) b k l;
+        bare = λ h. let e = rule2 .bare R A m h in (ap (λ (o : Outcome). wordsOf (o .result)) e, ap (λ (o : Outcome). o .bytes) e);
+        readOnly = λ t l h. rule2 .readOnly R A m (successIn w) (succeeded t) l h;
         reads = λ t. reads-of x refl t;
       }
 

@@ -10,8 +10,8 @@ use Rattle.descriptor.specs.Bytes.{Bytes, desc}
 use Rattle.descriptor.specs.Bits.{bit}
 use Rattle.geometry.specs.Geometry.{levelOf, outputLimit}
 use Rattle.vmsa.specs.Words.{flag, regimeOf}
-use Rattle.vmsa.specs.Kinds.{isProbe, writes}
-use Rattle.vmsa.specs.Fields.{af, ap2}
+use Rattle.vmsa.specs.Kinds.{isProbe, asksWrite, writes}
+use Rattle.vmsa.specs.Fields.{af, ap2, noWriteBelow}
 use Rattle.vmsa.specs.Answers.{codeOf}
 use Rattle.vmsa.specs.declared.Regime.{Regime}
 use Rattle.vmsa.specs.declared.RegimeWords.{RegimeWords}
@@ -19,10 +19,12 @@ use Rattle.vmsa.specs.declared.Access.{Access}
 use Rattle.vmsa.specs.declared.FaultKind.{FaultKind}
 use Rattle.vmsa.specs.declared.FaultKind.the-variants.{Permission, Alignment}
 use Rattle.checks.specs.Order.{walkRows}
+use Rattle.permission.specs.Permission.{writable}
 use Rattle.walk.specs.Walk.{poolBytes}
 use Rattle.rules.specs.Rule1.{FirstNumber, Managed}
 use Rattle.rules.specs.Steps.{AllPass, FirstFails}
-use Rattle.rules.specs.Rule2.{stepsOf, traceOf, LeafOf, offset, Placed, Right, FlagUpdate, DirtyUpdate}
+use Rattle.rules.specs.Tables.{traceOf, TablesOff, TablesClear, bareWalk}
+use Rattle.rules.specs.Rule2.{stepsOf, LeafOf, offset, Placed, Right, FlagUpdate, DirtyUpdate}
 use Rattle.tlb.specs.Walker.{noRegime}
 use Rattle.tlb.specs.Ours.{ours}
 use Rattle.tlb.specs.Entries.{pageFor, entryFor}
@@ -31,7 +33,7 @@ use Rattle.session.specs.Model.{access}
 use Rattle.session.specs.View.{regimeHeld}
 use Rattle.words.specs.declared.AccessWords.{AccessWords}
 use Rattle.words.specs.declared.AnswerWords.{AnswerWords}
-use Rattle.words.specs.Words.{accessOf, countedWords}
+use Rattle.words.specs.Words.{accessOf, wordsOf, countedWords}
 use Rattle.capi_walk.specs.Says.{WalkSays}
 use Rattle.capi_session.specs.Says.{EmptySays, AccessSays}
 use Rattle.calls.specs.Chains.{Event, Chain}
@@ -76,9 +78,14 @@ module _ (m : List ℕ) (g : RegimeWords) (a : AccessWords) (m′ : List ℕ) (w
     pub marks : w .tag ≡ 0 → Bytes m → (l : LeafOf R A m)
         → FlagUpdate R A (l .value) (desc m′ (offset l)) (flag (w .accessed)) × DirtyUpdate R A (l .value) (desc m′ (offset l)) (flag (w .dirtied))
     pub probe : w .tag ≡ 0 → Bytes m → LeafOf R A m → isProbe (A .kind) ≡ true → m′ ≡ m
-    -- AF is 1 afterwards, but for a probe; a written page ends writable, too
+    -- AF is 1 afterwards, but for a probe; a written page ends writable, too, by W and by its AP[2]
     pub accessed : w .tag ≡ 0 → Bytes m → (l : LeafOf R A m) → isProbe (A .kind) ≡ false → af (desc m′ (offset l)) ≡ true
-    pub written : w .tag ≡ 0 → Bytes m → writes (A .kind) ≡ true → (l : LeafOf R A m) → (af (desc m′ (offset l)) ≡ true) × (ap2 (desc m′ (offset l)) ≡ false)
+    pub written : w .tag ≡ 0 → Bytes m → writes (A .kind) ≡ true → (l : LeafOf R A m)
+        → (af (desc m′ (offset l)) ≡ true) × (ap2 (desc m′ (offset l)) ≡ false) × (writable R (record { value = desc m′ (offset l); left = l .left; tables = l .tables }) ≡ true)
+    -- where HPD is on, or no table on the way has one of bits 62 to 59, it is as by the rules in which they have no say
+    pub bare : TablesOff R A ⊎ TablesClear R A m → (w ≡ wordsOf (bareWalk R A m .result)) × (m′ ≡ bareWalk R A m .bytes)
+    -- under a table with bit 62 a success asked for no write, and made nothing dirty
+    pub readOnly : w .tag ≡ 0 → (l : LeafOf R A m) → noWriteBelow (l .tables) ≡ true → (asksWrite (A .kind) ≡ false) × (flag (w .dirtied) ≡ false)
     -- a success may be remembered where AF is 1 afterwards; a fault, where a leaf with AF 1 was reached and step 7 or 8 failed
     pub cacheable : w .tag ≡ 0 → Bytes m → (l : LeafOf R A m) → flag (w .cacheable) ≡ af (desc m′ (offset l))
     pub fault-cacheable : w .tag ≡ 1

@@ -32,14 +32,17 @@ regimeSpare0 g = record {
   ha = g .ha;
   hd = g .hd;
   wxn = g .wxn;
-  spare = 0;
+  hpd0 = g .hpd0;
+  hpd1 = g .hpd1;
+  spare16 = 0;
+  spare32 = 0;
 }
 
 abbrev pub accessSpare0 : AccessWords → AccessWords
 accessSpare0 a = record { address = a .address; size = a .size; el0 = a .el0; kind = a .kind; spare16 = 0; spare32 = 0 }
 
 abbrev pub entrySpare0 : EntryStruct → EntryStruct
-entrySpare0 e = record { page = e .page; value = e .value; left = e .left; held = e .held; spare16 = 0; spare32 = 0 }
+entrySpare0 e = record { page = e .page; value = e .value; left = e .left; held = e .held; tables = e .tables; spare8 = 0; spare32 = 0 }
 
 -- those of its regime and its entries too
 abbrev pub sessionSpare0 : SessionStruct → SessionStruct

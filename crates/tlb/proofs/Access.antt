@@ -26,9 +26,10 @@ use Rattle.walk.specs.Walk.{Outcome, outcome, walkPool, keptPool, keptLeaf}
 use Rattle.walk.proofs.Parts.{put-back}
 use Rattle.walk.proofs.Settled.{low-decision}
 use Rattle.decision.specs.Decision.{decision}
+use Rattle.walk.specs.Walk.{revalued}
 use Rattle.tlb.specs.declared.Entry.{Entry as EntryStruct}
 use Rattle.tlb.specs.Replies.{Reply, done, refused, answered, replyOf}
-use Rattle.tlb.specs.Walker.{Spot, lost, found as foundAt, andThen, noRegime, Entry, holds, heldIn, revalued, Walked, declined, walkFrom, walked, accessHeld, accessBy, accessUnder, accessIn}
+use Rattle.tlb.specs.Walker.{Spot, lost, found as foundAt, andThen, noRegime, Entry, holds, heldIn, Walked, declined, walkFrom, walked, accessHeld, accessBy, accessUnder, accessIn}
 use Rattle.tlb.specs.Ours.{usable, located, judged, stamped, ours}
 use Rattle.tlb.specs.Entries.{entryView, pageFor, keptEntry, entryAnswer, checkedReply, entryReply, hitKindIn, isHit, regimeIn, walkedView}
 use Rattle.tlb.proofs.Deciding.{reply-decision}

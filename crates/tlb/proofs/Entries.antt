@@ -27,13 +27,17 @@ abbrev stands : EntryStruct → Bool
 stands e = flag (e .held) && leb (e .left) 3
 
 abbrev pub leafIn : EntryStruct → Leaf
-leafIn e = record { value = e .value; left = e .left }
+leafIn e = record { value = e .value; left = e .left; tables = e .tables }
 
 pub held-match : (e : EntryStruct) (page : ℕ) → stands e ≡ true → e .page ≡ page → some (leafIn e) ≡ heldIn (entryView e) page
 held-match e page h q = rw (h, eq-eqb (e .page) page q)
 
-pub held-other : (e : EntryStruct) (page : ℕ) → stands e ≡ true → (e .page ≡ page → ⊥) → none ≡ heldIn (entryView e) page
-held-other e page h q = rw (h, ne-eqb (e .page) page q)
+pub held-other : (e : EntryStruct) (page : ℕ) → (e .page ≡ page → ⊥) → none ≡ heldIn (entryView e) page
+held-other e page q = by (stands e)
+  where
+    by : (b : Bool) → none ≡ heldIn (pick b (holds (e .page) (leafIn e)) empty) page
+    by true = rw (ne-eqb (e .page) page q)
+    by false = refl
 
 pub held-empty : (e : EntryStruct) (page : ℕ) → stands e ≡ false → none ≡ heldIn (entryView e) page
 held-empty e page h = rw h

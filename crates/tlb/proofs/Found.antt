@@ -26,16 +26,16 @@ use Rattle.tlb.proofs.Walking.{usable-sized, usable-root}
 pub record Where (r : Regime) (m : List ℕ) (p at : ℕ) (u : Leaf) (n : ℕ) : Type 0 where
   pub regime : usable r ≡ true
   pub address : ℕ
-  pub end : traced r (poolBytes (r .pool) m) (p * pageSize pageBits) .end ≡ leaf address (u .value) (u .left)
+  pub end : traced r (poolBytes (r .pool) m) (p * pageSize pageBits) .end ≡ leaf address u
   pub offset : offsetOf r address ≡ at
   pub count : length (traced r (poolBytes (r .pool) m) (p * pageSize pageBits) .visited) ≡ n
 
 spot-found : (r : Regime) (k : ℕ) (e : End) (at : ℕ) (u : Leaf) (n : ℕ) → spotAt r k e ≡ foundAt at u n
-    → (address : ℕ) × (e ≡ leaf address (u .value) (u .left)) × (offsetOf r address ≡ at) × (k ≡ n)
+    → (address : ℕ) × (e ≡ leaf address u) × (offsetOf r address ≡ at) × (k ≡ n)
 spot-found r k (fault kind level) at u n q = clash (cc)
-spot-found r k (leaf a v left) at u n q =
-    let l : _≡_ {A = Leaf} (record { value = v; left = left }) u = cc in
-    (a, ap (λ (x : Leaf). leaf a (x .value) (x .left)) l, cc, cc)
+spot-found r k (leaf a l) at u n q =
+    let e : l ≡ u = cc in
+    (a, ap (leaf a) e, cc, cc)
 
 pub where-found : (r : Regime) (m : List ℕ) (p : ℕ) {at : ℕ} {u : Leaf} {n : ℕ} → located r m p ≡ foundAt at u n → Where r m p at u n
 unfolding located
@@ -50,14 +50,14 @@ where-found r m p {at} {u} {n} q = by (usable r) refl q
 
 -- the leaf lies in the pool
 pub in-the-pool : (r : Regime) (m : List ℕ) (p : ℕ) {at : ℕ} {u : Leaf} {n : ℕ} (w : Where r m p at u n)
-    → Found r (poolBytes (r .pool) m) (p * pageSize pageBits) (w .address) (u .value) (u .left)
+    → Found r (poolBytes (r .pool) m) (p * pageSize pageBits) (w .address) u
 in-the-pool r m p {u = u} w =
-    found r (poolBytes (r .pool) m) (p * pageSize pageBits) (w .address) (u .value) (u .left) (usable-sized r (w .regime)) (usable-root r (p * pageSize pageBits) (w .regime)) (w .end)
+    found r (poolBytes (r .pool) m) (p * pageSize pageBits) (w .address) u (usable-sized r (w .regime)) (usable-root r (p * pageSize pageBits) (w .regime)) (w .end)
 
 -- a lookup that ends in a fault ends at one of the four levels
 spot-lost : (r : Regime) (k : ℕ) (e : End) (code level n : ℕ) → spotAt r k e ≡ lost code level n → (kind : FaultKind) × (e ≡ fault kind level)
 spot-lost r k (fault kind l) code level n q = let z : l ≡ level = cc in (kind, ap (fault kind) z)
-spot-lost r k (leaf a v left) code level n q = clash (cc)
+spot-lost r k (leaf a l) code level n q = clash (cc)
 
 pub low-lost : (r : Regime) (m : List ℕ) (p code level n : ℕ) → located r m p ≡ lost code level n → level ≤ 3
 unfolding located

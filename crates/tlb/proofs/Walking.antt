@@ -30,11 +30,11 @@ use Rattle.lookup.specs.Trace.{End, fault, leaf, Trace}
 use Rattle.lookup.specs.Steps.{rangeOf}
 use Rattle.lookup.proofs.Page.{locate-page}
 use Rattle.decision.specs.Decision.{decision}
-use Rattle.walk.specs.Walk.{Outcome, poolBytes, withPoolBytes, applied, concluded, traced, walkPool, keptOf, keptAt, keptPool}
+use Rattle.walk.specs.Walk.{Outcome, poolBytes, withPoolBytes, applied, concluded, traced, walkPool, revalued, keptOf, keptAt, keptPool}
 use Rattle.walk.proofs.Parts.{with-own, with-put, length-part}
 use Rattle.walk.proofs.Ends.{root-aligned, found}
 use Rattle.tlb.specs.Replies.{Reply, answered, replyOf, updates}
-use Rattle.tlb.specs.Walker.{Spot, lost, found as foundAt, Walked, andThen, revalued, putWord, landed, walkFrom, walked}
+use Rattle.tlb.specs.Walker.{Spot, lost, found as foundAt, Walked, andThen, putWord, landed, walkFrom, walked}
 use Rattle.tlb.specs.Ours.{usable, offsetOf, spotAt, spotOf, located, judged, stamped, ours}
 use Rattle.tlb.proofs.Deciding.{reply-decision, update-decision, value-decision, cache-decision}
 
@@ -112,13 +112,12 @@ module _ (r : Regime) (m : List ℕ) (a : Access) (z : Sized r) (e : rangeOf r (
       ≡ record { reply = replyOf (concluded r a pool n x .result); memory = withPoolBytes (r .pool) m (concluded r a pool n x .bytes); kept = keptAt r a n x }
   unfolding trace pool
   by-end n (fault kind level) q = rw (with-own m (r .pool .start) (r .pool .length))
-  by-end n (leaf at v left) q =
-      let l : Leaf = record { value = v; left = left } in
-      let f = found r (poolBytes (r .pool) m) (a .address .0) at v left z e q in
+  by-end n (leaf at l) q =
+      let f = found r (poolBytes (r .pool) m) (a .address .0) at l z e q in
       let k : (at - r .pool .address .0) + 8 ≤ r .pool .length = (let p = length-part m (r .pool .start) (r .pool .length) h in omega (arith, f .inside .least, f .inside .most)) in
       rw (update-decision r a l n, value-decision r a l n, reply-decision r a l n, cache-decision r a l n)
-      (ap (λ (x : List ℕ). record { reply = answered (judged r l a) n; memory = x; kept = pick (cacheableIn (judged r l a)) (some (revalued l (stamped (judged r l a) v))) none })
-      (memory-by at (stamped (judged r l a) v) (updates (judged r l a)) k))
+      (ap (λ (x : List ℕ). record { reply = answered (judged r l a) n; memory = x; kept = pick (cacheableIn (judged r l a)) (some (revalued l (stamped (judged r l a) (l .value)))) none })
+      (memory-by at (stamped (judged r l a) (l .value)) (updates (judged r l a)) k))
 
   pub walked-pool : usable r ≡ true → walked ours r m a ≡ walkedPool r m a
   unfolding located walkPool keptPool trace pool

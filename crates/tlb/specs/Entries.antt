@@ -31,14 +31,14 @@ use Rattle.tlb.specs.Ours.{ours}
 
 -- an entry that is not held, or whose leaf stands at no level, is empty
 abbrev pub entryView : EntryStruct → Entry
-entryView e = pick (flag (e .held) && leb (e .left) 3) (holds (e .page) (record { value = e .value; left = e .left })) empty
+entryView e = pick (flag (e .held) && leb (e .left) 3) (holds (e .page) (record { value = e .value; left = e .left; tables = e .tables })) empty
 
 -- the empty entry, and one that holds a leaf of a page; spare numbers are 0
 abbrev pub noEntry : EntryStruct
-noEntry = record { page = 0; value = 0; left = 0; held = 0; spare16 = 0; spare32 = 0 }
+noEntry = record { page = 0; value = 0; left = 0; held = 0; tables = 0; spare8 = 0; spare32 = 0 }
 
 abbrev pub fullEntry : ℕ → Leaf → EntryStruct
-fullEntry page leaf = record { page = page; value = leaf .value; left = leaf .left; held = 1; spare16 = 0; spare32 = 0 }
+fullEntry page leaf = record { page = page; value = leaf .value; left = leaf .left; held = 1; tables = leaf .tables; spare8 = 0; spare32 = 0 }
 
 -- a session's regime, where it is set
 abbrev pub regimeIn : RegimeWords → ℕ → Option Regime

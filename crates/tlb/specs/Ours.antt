@@ -27,7 +27,7 @@ offsetOf r address = r .pool .start + (address - r .pool .address .0)
 -- the end of a trace, with the leaf's offset in the memory
 abbrev pub spotAt : Regime → ℕ → End → Spot
 spotAt r reads (fault kind level) = lost (codeOf kind level) level reads
-spotAt r reads (leaf at v left) = found (offsetOf r at) (record { value = v; left = left }) reads
+spotAt r reads (leaf at l) = found (offsetOf r at) l reads
 
 abbrev pub spotOf : Regime → Trace → Spot
 spotOf r t = spotAt r (length (t .visited)) (t .end)

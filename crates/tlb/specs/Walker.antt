@@ -13,7 +13,7 @@ use Rattle.vmsa.specs.declared.Leaf.{Leaf}
 use Rattle.vmsa.specs.declared.Refusal.the-variants.{NoRegime}
 use Rattle.checks.specs.declared.Checked.{Checked}
 use Rattle.checks.specs.declared.Checked.the-variants.{Accepted, Refused}
-use Rattle.walk.specs.Walk.{Outcome}
+use Rattle.walk.specs.Walk.{Outcome, revalued}
 use Rattle.tlb.specs.Replies.{Reply, refused, answered, updates}
 
 -- how steps 1 to 5 end: a fault's code and level, or the offset of a leaf's descriptor in the memory and the leaf; then the count of reads
@@ -67,10 +67,6 @@ entryOf page = page % entryCount
 abbrev pub heldIn : Entry → ℕ → Option Leaf
 heldIn empty page = none
 heldIn (holds q leaf) page = pick (eqb q page) (some leaf) none
-
--- a leaf with another value
-abbrev pub revalued : Leaf → ℕ → Leaf
-revalued l v = record { value = v; left = l .left }
 
 -- what an access gives: its reply, the memory afterwards, and the leaf that then fills its page's entry
 pub record Walked : Type 0 where

@@ -25,14 +25,15 @@ use walk::Kept;
 // How many entries a session has; specs/Walker.antt has the same number.
 pub const ENTRIES: usize = 64;
 
-// A TLB entry: the leaf that it holds of a page, where held is not 0. All numbers, so that any bytes are an entry; the spare ones have no say.
+// A TLB entry: the leaf that it holds of a page, with the sum of the tables above it, where held is not 0. All numbers, so that any bytes are an entry; the spare ones have no say.
 #[repr(C)]
 pub struct Entry {
     pub page: u64,
     pub value: u64,
     pub left: u8,
     pub held: u8,
-    pub spare16: u16,
+    pub tables: u8,
+    pub spare8: u8,
     pub spare32: u32,
 }
 
@@ -64,7 +65,8 @@ impl Entry {
             value: 0,
             left: 0,
             held: 0,
-            spare16: 0,
+            tables: 0,
+            spare8: 0,
             spare32: 0,
         }
     }
@@ -73,11 +75,12 @@ impl Entry {
     pub fn held_of(self, page: u64) -> Held
         ensures { λ h. ⌜ heldLeaf h ≡ heldIn (entryView self) page ⌝ }
     {
-        if (self.held != 0) & (self.left <= 3) {
-            if self.page == page {
+        if self.page == page {
+            if (self.held != 0) & (self.left <= 3) {
                 return Held::Leaf(Leaf {
                     value: self.value,
                     left: self.left,
+                    tables: self.tables,
                 });
             }
             return Held::Nothing;
@@ -122,6 +125,7 @@ impl Entry {
         let leaf = Leaf {
             value: self.value,
             left: self.left,
+            tables: self.tables,
         };
         decision::fault(r, a, leaf, 0)
     }
@@ -134,6 +138,7 @@ impl Entry {
         let leaf = Leaf {
             value: self.value,
             left: self.left,
+            tables: self.tables,
         };
         decision::success(r, a, leaf, 0)
     }
@@ -150,7 +155,8 @@ impl Entry {
             value: leaf.value,
             left: leaf.left,
             held: 1,
-            spare16: 0,
+            tables: leaf.tables,
+            spare8: 0,
             spare32: 0,
         }
     }

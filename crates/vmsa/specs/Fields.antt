@@ -1,6 +1,7 @@
--- The fields of a leaf descriptor (RULES 6.9).
+-- The fields of a leaf descriptor (RULES 6.9), and the bits of tables that count below them (RULES 6.11).
 use Prim.Native.Nat.{ℕ}
 use mathlib.Core.Bool.{Bool}
+use lib.Bits.{bitOr}
 use Rattle.descriptor.specs.Bits.{bit, field, setBit, clearBit}
 
 abbrev pub attributeIndex : ℕ → ℕ
@@ -41,3 +42,29 @@ setAf v = setBit 10 v
 
 abbrev pub clearAp2 : ℕ → ℕ
 clearAp2 v = clearBit 7 v
+
+-- ---- tables (the customer's papers: a table's extra bits)
+
+-- bits 62 to 59 of a table descriptor, as a number of four bits
+unfoldable pub tableBits : ℕ → ℕ
+tableBits v = field 59 4 v
+
+-- the sum of tables, and one more: each bit where either has it
+unfoldable pub withTable : ℕ → ℕ → ℕ
+withTable sum v = bitOr sum (tableBits v)
+
+-- bit 62, APTable[1]: nothing may be written below
+abbrev pub noWriteBelow : ℕ → Bool
+noWriteBelow sum = bit 3 sum
+
+-- bit 61, APTable[0]: AP[1] counts as 0 below
+abbrev pub noUserBelow : ℕ → Bool
+noUserBelow sum = bit 2 sum
+
+-- bit 60, UXNTable: UXN counts as 1 below
+abbrev pub uxnBelow : ℕ → Bool
+uxnBelow sum = bit 1 sum
+
+-- bit 59, PXNTable: PXN counts as 1 below
+abbrev pub pxnBelow : ℕ → Bool
+pxnBelow sum = bit 0 sum

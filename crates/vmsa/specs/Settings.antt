@@ -6,9 +6,9 @@ use Rattle.vmsa.specs.declared.Pool.{Pool}
 use Rattle.vmsa.specs.declared.Range.{Range}
 use Rattle.vmsa.specs.Limits.{tszLeast, outputMost}
 
--- a disabled range
+-- a disabled range, whose tables' bits would count
 abbrev pub disabledRange : Range
-disabledRange = record { root = record { 0 = 0 }; tsz = tszLeast; disabled = true }
+disabledRange = record { root = record { 0 = 0 }; tsz = tszLeast; disabled = true; hpd = false }
 
 -- no pool yet, both ranges disabled, 48 bits of output, no updates, Device memory only
 abbrev pub initial : Regime
@@ -31,6 +31,16 @@ withRange0 r x = record { pool = r .pool; range0 = x; range1 = r .range1; output
 
 abbrev pub withRange1 : Regime → Range → Regime
 withRange1 r x = record { pool = r .pool; range0 = r .range0; range1 = x; output = r .output; ha = r .ha; hd = r .hd; wxn = r .wxn; attributes = r .attributes }
+
+-- a range with its HPD changed
+abbrev pub rangeWithHpd : Range → Bool → Range
+rangeWithHpd g x = record { root = g .root; tsz = g .tsz; disabled = g .disabled; hpd = x }
+
+abbrev pub withHpd0 : Regime → Bool → Regime
+withHpd0 r x = withRange0 r (rangeWithHpd (r .range0) x)
+
+abbrev pub withHpd1 : Regime → Bool → Regime
+withHpd1 r x = withRange1 r (rangeWithHpd (r .range1) x)
 
 abbrev pub withOutput : Regime → ℕ → Regime
 withOutput r x = record { pool = r .pool; range0 = r .range0; range1 = r .range1; output = x; ha = r .ha; hd = r .hd; wxn = r .wxn; attributes = r .attributes }

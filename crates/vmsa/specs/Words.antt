@@ -16,8 +16,8 @@ flagByte b = pick b 1 0
 unfoldable pub regimeOf : RegimeWords → Regime
 regimeOf w = record {
   pool = record { start = w .start; length = w .length; address = record { 0 = w .address } };
-  range0 = record { root = record { 0 = w .root0 }; tsz = w .tsz0; disabled = flag (w .disabled0) };
-  range1 = record { root = record { 0 = w .root1 }; tsz = w .tsz1; disabled = flag (w .disabled1) };
+  range0 = record { root = record { 0 = w .root0 }; tsz = w .tsz0; disabled = flag (w .disabled0); hpd = flag (w .hpd0) };
+  range1 = record { root = record { 0 = w .root1 }; tsz = w .tsz1; disabled = flag (w .disabled1); hpd = flag (w .hpd1) };
   output = w .output;
   ha = flag (w .ha);
   hd = flag (w .hd);
@@ -41,5 +41,8 @@ regimeWords r = record {
   ha = flagByte (r .ha);
   hd = flagByte (r .hd);
   wxn = flagByte (r .wxn);
-  spare = 0;
+  hpd0 = flagByte (r .range0 .hpd);
+  hpd1 = flagByte (r .range1 .hpd);
+  spare16 = 0;
+  spare32 = 0;
 }

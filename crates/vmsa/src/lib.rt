@@ -5,7 +5,7 @@ ghost use Rattle.vmsa.specs.Kinds.{isFetch, isProbe, asksWrite, writes a
 ghost use Rattle.vmsa.specs.Attributes.{attribute as attributeOf, device as deviceOf, normal as normalOf};
 ghost use Rattle.vmsa.specs.Answers.{numberOf, codeOf, view, cacheableIn, dirtiedIn};
 ghost use Rattle.vmsa.specs.Words.{flagByte, regimeOf, regimeWords};
-ghost use Rattle.vmsa.specs.Settings.{initial, withPool, withRange0, withRange1, withOutput, withHa, withHd, withWxn, withAttributes};
+ghost use Rattle.vmsa.specs.Settings.{initial, withPool, withRange0, withRange1, withHpd0, withHpd1, withOutput, withHa, withHd, withWxn, withAttributes};
 
 // The limits of the pool, the memory and the regime; specs/Limits.antt has the same numbers.
 pub const MEMORY_LIMIT: usize = 16777216;
@@ -22,7 +22,7 @@ pub const OUTPUT_MOST: u8 = 5;
 
 pub const PAGE_BITS: u8 = 12;
 
-// Bits of a leaf descriptor; specs/Fields.antt has the same numbers.
+// Bits of a leaf descriptor, and of the sum of the tables above it; specs/Fields.antt has the same numbers.
 pub const AP1: u8 = 6;
 
 pub const AP2: u8 = 7;
@@ -37,6 +37,18 @@ pub const PXN: u8 = 53;
 
 pub const UXN: u8 = 54;
 
+pub const TABLE_BITS: u8 = 59;
+
+pub const TABLE_WIDTH: u8 = 4;
+
+pub const PXN_BELOW: u8 = 0;
+
+pub const UXN_BELOW: u8 = 1;
+
+pub const NO_USER_BELOW: u8 = 2;
+
+pub const NO_WRITE_BELOW: u8 = 3;
+
 // A physical address.
 pub struct PhysAddr(pub u64);
 
@@ -50,11 +62,13 @@ pub struct Pool {
     pub address: PhysAddr,
 }
 
-// One of the two ranges of guest addresses: its root table, its size field T, its disabled bit.
+// One of the two ranges of guest addresses: its root table, its size field T, its disabled bit,
+// and HPD, with which bits of its tables do not count.
 pub struct Range {
     pub root: PhysAddr,
     pub tsz: u8,
     pub disabled: bool,
+    pub hpd: bool,
 }
 
 // A translation regime: stage 1 of EL1&0.
@@ -69,7 +83,7 @@ pub struct Regime {
     pub attributes: u64,
 }
 
-// A regime as numbers, for where any bytes may stand: a flag is true where its byte is not 0. spare has no say, and is 0 in what we return.
+// A regime as numbers, for where any bytes may stand: a flag is true where its byte is not 0. The spare ones have no say, and are 0 in what we return.
 #[repr(C)]
 pub struct RegimeWords {
     pub start: usize,
@@ -86,7 +100,10 @@ pub struct RegimeWords {
     pub ha: u8,
     pub hd: u8,
     pub wxn: u8,
-    pub spare: u64,
+    pub hpd0: u8,
+    pub hpd1: u8,
+    pub spare16: u16,
+    pub spare32: u32,
 }
 
 pub enum AccessKind {
@@ -156,10 +173,12 @@ pub enum Answer {
     Refused(Refusal),
 }
 
-// The block or page descriptor that a walk ends in: its value, and the levels left below it.
+// The block or page descriptor that a walk ends in: its value, the levels left below it,
+// and what the tables on the way to it take away, as the sum of their bits.
 pub struct Leaf {
     pub value: u64,
     pub left: u8,
+    pub tables: u8,
 }
 
 impl Regime {
@@ -171,6 +190,7 @@ impl Regime {
             root: PhysAddr(0),
             tsz: TSZ_LEAST,
             disabled: true,
+            hpd: false,
         };
         Regime {
             pool: Pool {
@@ -206,6 +226,20 @@ impl Regime {
         ensures { λ r. ⌜ r ≡ withRange1 self range1 ⌝ }
     {
         self.range1 = range1;
+        self
+    }
+
+    pub fn with_hpd0(mut self, hpd: bool) -> Self
+        ensures { λ r. ⌜ r ≡ withHpd0 self hpd ⌝ }
+    {
+        self.range0.hpd = hpd;
+        self
+    }
+
+    pub fn with_hpd1(mut self, hpd: bool) -> Self
+        ensures { λ r. ⌜ r ≡ withHpd1 self hpd ⌝ }
+    {
+        self.range1.hpd = hpd;
         self
     }
 
@@ -266,11 +300,13 @@ impl RegimeWords {
             root: PhysAddr(self.root0),
             tsz: self.tsz0,
             disabled: self.disabled0 != 0,
+            hpd: self.hpd0 != 0,
         };
         let range1 = Range {
             root: PhysAddr(self.root1),
             tsz: self.tsz1,
             disabled: self.disabled1 != 0,
+            hpd: self.hpd1 != 0,
         };
         Regime::new()
             .with_pool(pool)
@@ -302,7 +338,10 @@ impl RegimeWords {
             ha: flag_byte(r.ha),
             hd: flag_byte(r.hd),
             wxn: flag_byte(r.wxn),
-            spare: 0,
+            hpd0: flag_byte(r.range0.hpd),
+            hpd1: flag_byte(r.range1.hpd),
+            spare16: 0,
+            spare32: 0,
         }
     }
 }

@@ -36,27 +36,27 @@ use Rattle.lookup.proofs.Reach.{Good, Reached, locate-good, InPool, in-pool}
 use Rattle.decision.specs.declared.Verdict.{Verdict}
 use Rattle.decision.specs.Decision.{decision, seen}
 use Rattle.walk.proofs.Parts.{put-back}
-use Rattle.walk.specs.Walk.{Outcome, traced, outcome, applied, walkPool, keptOf, keptPool, walk}
+use Rattle.walk.specs.Walk.{Outcome, traced, outcome, applied, walkPool, revalued, keptOf, keptPool, walk}
 
 -- a trace that ends in this leaf, and one that ends in this fault
 pub record AtLeaf (t : Trace) (l : Located) : Type 0 where
-  pub end : t .end ≡ leaf (l .address .0) (l .leaf .value) (l .leaf .left)
+  pub end : t .end ≡ leaf (l .address .0) (l .leaf)
   pub reads : length (t .visited) ≡ l .reads
 
 pub record AtFault (t : Trace) (l : Located) (kind : FaultKind) : Type 0 where
   pub end : t .end ≡ fault kind (l .level)
   pub reads : length (t .visited) ≡ l .reads
 
-leaf-by : (n : ℕ) (e : End) (l : Located) → l ≡ shownEnd n e → l .ending ≡ ending.Leaf → (e ≡ leaf (l .address .0) (l .leaf .value) (l .leaf .left)) × (n ≡ l .reads)
+leaf-by : (n : ℕ) (e : End) (l : Located) → l ≡ shownEnd n e → l .ending ≡ ending.Leaf → (e ≡ leaf (l .address .0) (l .leaf)) × (n ≡ l .reads)
 leaf-by n (fault kind level) l q h = clash (let z : ending.Fault kind ≡ ending.Leaf = sym (ap (λ (x : Located). x .ending) q) ∙ h in cc)
-leaf-by n (leaf a v left) l q h = rw q (refl, refl)
+leaf-by n (leaf a x) l q h = rw q (refl, refl)
 
 fault-by : (n : ℕ) (e : End) (l : Located) (kind : FaultKind) → l ≡ shownEnd n e → l .ending ≡ ending.Fault kind → (e ≡ fault kind (l .level)) × (n ≡ l .reads)
 fault-by n (fault k level) l kind q h =
     let z : ending.Fault k ≡ ending.Fault kind = sym (ap (λ (x : Located). x .ending) q) ∙ h in
     let y : k ≡ kind = cc in
     rw (q, y) (refl, refl)
-fault-by n (leaf a v left) l kind q h = clash (let z : ending.Leaf ≡ ending.Fault kind = sym (ap (λ (x : Located). x .ending) q) ∙ h in cc)
+fault-by n (leaf a x) l kind q h = clash (let z : ending.Leaf ≡ ending.Fault kind = sym (ap (λ (x : Located). x .ending) q) ∙ h in cc)
 
 pub at-leaf : (t : Trace) (l : Located) → l ≡ shown 0 t → l .ending ≡ ending.Leaf → AtLeaf t l
 unfolding shown
@@ -71,16 +71,16 @@ at-fault t l kind q h =
     record { end = s .0; reads = sym (zero-add (length (t .visited))) ∙ s .1 }
 
 -- a leaf that the walk reached: it lies in the pool
-pub record Found (r : Regime) (pool : List ℕ) (address a v left : ℕ) : Type 0 where
-  pub reached : Reached (contextOf r address) (fetched pool (r .pool .address .0)) a v left
-  pub inside : InPool pool (r .pool .address .0) a v
+pub record Found (r : Regime) (pool : List ℕ) (address a : ℕ) (l : Leaf) : Type 0 where
+  pub reached : Reached (contextOf r address) (fetched pool (r .pool .address .0)) a l
+  pub inside : InPool pool (r .pool .address .0) a (l .value)
 
-pub found : (r : Regime) (pool : List ℕ) (address a v left : ℕ) → Sized r → rangeOf r address .root .0 % 8 ≡ 0 → traced r pool address .end ≡ leaf a v left → Found r pool address a v left
+pub found : (r : Regime) (pool : List ℕ) (address a : ℕ) (l : Leaf) → Sized r → rangeOf r address .root .0 % 8 ≡ 0 → traced r pool address .end ≡ leaf a l → Found r pool address a l
 unfolding traced
-found r pool address a v left z e q =
+found r pool address a l z e q =
     let read = fetched pool (r .pool .address .0) in
-    let g : Reached (contextOf r address) read a v left = subst (λ (x : End). Good (contextOf r address) read x) q (locate-good r read address z e) in
-    record { reached = g; inside = in-pool pool (r .pool .address .0) a v (g .value) }
+    let g : Reached (contextOf r address) read a l = subst (λ (x : End). Good (contextOf r address) read x) q (locate-good r read address z e) in
+    record { reached = g; inside = in-pool pool (r .pool .address .0) a (l .value) (g .value) }
 
 -- ---- the answer over the pool, from what the code computed
 
@@ -106,15 +106,15 @@ module _ (r : Regime) (a : Access) (pool : List ℕ) (l : Located) (q : l ≡ sh
   fault-kept kind h = let f = at-fault (traced r pool (a .address .0)) l kind q h in rw (f .reads, f .end)
 
   pub leaf-kept : l .ending ≡ ending.Leaf → (v : Verdict) → seen v ≡ decision r a (l .leaf) (l .reads)
-      → pick (cacheableIn (view (v .answer))) (some (record { value = v .value; left = l .leaf .left })) none ≡ keptPool r a pool
+      → pick (cacheableIn (view (v .answer))) (some (revalued (l .leaf) (v .value))) none ≡ keptPool r a pool
   unfolding keptPool
   leaf-kept h v e =
       let f = at-leaf (traced r pool (a .address .0)) l q h in
       let d : keptOf (l .leaf) (seen v) ≡ keptOf (l .leaf) (decision r a (l .leaf) (l .reads)) = ap (keptOf (l .leaf)) e in
       rw (f .reads, f .end) d
 
-  pub leaf-found : l .ending ≡ ending.Leaf → Sized r → rangeOf r (a .address .0) .root .0 % 8 ≡ 0 → Found r pool (a .address .0) (l .address .0) (l .leaf .value) (l .leaf .left)
-  leaf-found h z e = found r pool (a .address .0) (l .address .0) (l .leaf .value) (l .leaf .left) z e (at-leaf (traced r pool (a .address .0)) l q h .end)
+  pub leaf-found : l .ending ≡ ending.Leaf → Sized r → rangeOf r (a .address .0) .root .0 % 8 ≡ 0 → Found r pool (a .address .0) (l .address .0) (l .leaf)
+  leaf-found h z e = found r pool (a .address .0) (l .address .0) (l .leaf) z e (at-leaf (traced r pool (a .address .0)) l q h .end)
 
 -- ---- what acceptance gives the walk over the pool
 

@@ -40,9 +40,9 @@ low-fault r pool address z kind level e = subst (λ (x : End). Backed pool (r .p
 
 low-end : (r : Regime) (a : Access) (pool : List ℕ) (n : ℕ) (x : End) → ((kind : FaultKind) (level : ℕ) → x ≡ fault kind level → level ≤ 3) → LowIn (concluded r a pool n x .result)
 low-end r a pool n (fault kind level) h = h kind level refl
-low-end r a pool n (leaf at v left) h = low-decision r a (record { value = v; left = left }) n
+low-end r a pool n (leaf at l) h = low-decision r a l n
 
-low-by : (r : Regime) (a : Access) (m : List ℕ) (c : Checked) → walkCheck (length m) r a ≡ c → LowIn (checked r a m c .result)
+low-by : (r : Regime) (a : Access) (m : List ℕ) (c : Checked) → walkCheck (length m) r a ≡ c → LowIn (checked (walkPool r a) (r .pool) m c .result)
 unfolding walkPool
 low-by r a m (Refused x) e = tt
 low-by r a m Accepted e =

@@ -45,23 +45,30 @@ applied pool at d = record { result = d .result; bytes = pick (d .update) (put p
 abbrev pub concluded : Regime → Access → List ℕ → ℕ → End → Outcome
 concluded r a pool reads (fault kind level) =
     record { result = faulted (record { code = codeOf kind level; level = level; cacheable = false; reads = reads }); bytes = pool }
-concluded r a pool reads (leaf at v left) = applied pool (at - r .pool .address .0) (decision r a (record { value = v; left = left }) reads)
+concluded r a pool reads (leaf at l) = applied pool (at - r .pool .address .0) (decision r a l reads)
 
 -- the descriptors that a walk visits in the pool, and their end
 unfoldable pub traced : Regime → List ℕ → ℕ → Trace
 traced r pool address = locate r (fetched pool (r .pool .address .0)) address
 
--- the walk over the pool's bytes; the count of reads is the length of the visited list
-unfoldable pub walkPool : Regime → Access → List ℕ → Outcome
-walkPool r a pool = concluded r a pool (length (traced r pool (a .address .0) .visited)) (traced r pool (a .address .0) .end)
+-- the walk over the pool's bytes along a trace; the count of reads is the length of the visited list
+abbrev pub walkAlong : Regime → Access → List ℕ → Trace → Outcome
+walkAlong r a pool t = concluded r a pool (length (t .visited)) (t .end)
 
--- the leaf that may be remembered: as the walk left it, updates included (RULES 10.2)
+unfoldable pub walkPool : Regime → Access → List ℕ → Outcome
+walkPool r a pool = walkAlong r a pool (traced r pool (a .address .0))
+
+-- a leaf with another value
+abbrev pub revalued : Leaf → ℕ → Leaf
+revalued l v = record { value = v; left = l .left; tables = l .tables }
+
+-- the leaf that may be remembered: as the walk left it, updates included, under the tables that it met (RULES 10.2)
 abbrev pub keptOf : Leaf → Decision → Option Leaf
-keptOf l d = pick (cacheableIn (d .result)) (some (record { value = d .value; left = l .left })) none
+keptOf l d = pick (cacheableIn (d .result)) (some (revalued l (d .value))) none
 
 abbrev pub keptAt : Regime → Access → ℕ → End → Option Leaf
 keptAt r a reads (fault kind level) = none
-keptAt r a reads (leaf at v left) = keptOf (record { value = v; left = left }) (decision r a (record { value = v; left = left }) reads)
+keptAt r a reads (leaf at l) = keptOf l (decision r a l reads)
 
 unfoldable pub keptPool : Regime → Access → List ℕ → Option Leaf
 keptPool r a pool = keptAt r a (length (traced r pool (a .address .0) .visited)) (traced r pool (a .address .0) .end)
@@ -71,14 +78,11 @@ abbrev pub keptLeaf : Kept → Option Leaf
 keptLeaf (kept.Leaf l) = some l
 keptLeaf kept.Nothing = none
 
--- a refusal carries its number alone and changes nothing
-abbrev pub checked : Regime → Access → List ℕ → Checked → Outcome
-checked r a memory (Refused x) = record { result = refused (numberOf x); bytes = memory }
-checked r a memory Accepted = record {
-  result = walkPool r a (poolBytes (r .pool) memory) .result;
-  bytes = withPoolBytes (r .pool) memory (walkPool r a (poolBytes (r .pool) memory) .bytes);
-}
+-- what is done over the pool's bytes, in the memory; a refusal carries its number alone and changes nothing
+abbrev pub checked : (List ℕ → Outcome) → Pool → List ℕ → Checked → Outcome
+checked over p memory (Refused x) = record { result = refused (numberOf x); bytes = memory }
+checked over p memory Accepted = record { result = over (poolBytes p memory) .result; bytes = withPoolBytes p memory (over (poolBytes p memory) .bytes) }
 
 -- the plain walk over the lent memory
 unfoldable pub walk : Regime → Access → List ℕ → Outcome
-walk r a memory = checked r a memory (walkCheck (length memory) r a)
+walk r a memory = checked (walkPool r a) (r .pool) memory (walkCheck (length memory) r a)

@@ -6,7 +6,7 @@ ghost use Rattle.descriptor.specs.Bits.{pick};
 ghost use Rattle.vmsa.specs.Limits.{Sized};
 ghost use Rattle.vmsa.specs.Answers.{view, cacheableIn};
 ghost use Rattle.lookup.specs.Steps.{rangeOf};
-ghost use Rattle.walk.specs.Walk.{outcome, walkPool, keptPool, keptLeaf, walk as walkOf};
+ghost use Rattle.walk.specs.Walk.{outcome, walkPool, revalued, keptPool, keptLeaf, walk as walkOf};
 use checks::Checked;
 use lookup::Ending;
 use vmsa::Access;
@@ -27,13 +27,14 @@ pub struct Walked {
     pub kept: Kept,
 }
 
-fn keep(answer: Answer, value: u64, left: u8) -> Kept
-    ensures { λ k. ⌜ keptLeaf k ≡ pick (cacheableIn (view answer)) (some (record { value = value; left = left })) none ⌝ }
+fn keep(answer: Answer, value: u64, l: Leaf) -> Kept
+    ensures { λ k. ⌜ keptLeaf k ≡ pick (cacheableIn (view answer)) (some (revalued l value)) none ⌝ }
 {
     if answer.cacheable() {
         return Kept::Leaf(Leaf {
             value: value,
-            left: left,
+            left: l.left,
+            tables: l.tables,
         });
     }
     Kept::Nothing
@@ -59,7 +60,7 @@ pub fn walk_leaf(pool: &mut [u8], r: Regime, a: Access) -> Walked
         Ending::Leaf => {
             let verdict = decision::judge(r, a, found.leaf, found.reads);
             let answer = verdict.answer;
-            let kept = keep(answer, verdict.value, found.leaf.left);
+            let kept = keep(answer, verdict.value, found.leaf);
             if verdict.update {
                 let offset = (found.address.0 - r.pool.address.0) as usize;
                 descriptor::store(pool, offset, verdict.value);

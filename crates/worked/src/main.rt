@@ -31,6 +31,9 @@ const TOO_LONG: usize = 1052672;
 // The third descriptor and the leaf that the cases start from, and the leaf's offset in the pool.
 const THIRD: u64 = 0x40003003;
 
+// The third with bit 62: nothing may be written below it.
+const NO_WRITE_BELOW: u64 = 0x4000000040003003;
+
 const LEAF: u64 = 0x00080000800053C3;
 
 const LEAF_OFFSET: usize = 0x3018;
@@ -60,6 +63,7 @@ fn base(length: usize) -> Regime
         root: root,
         tsz: 16,
         disabled: false,
+        hpd: false,
     };
     Regime::new()
         .with_pool(pool)
@@ -248,6 +252,10 @@ fn main() {
     run(10, device, odd, THIRD, LEAF);
     run(11, r, access(0x403FFC, 4, AccessKind::Read), THIRD, LEAF);
     run(11, r, access(0x403FFD, 4, AccessKind::Read), THIRD, LEAF);
+    print(b"under bit 62: ");
+    run(2, r, write, NO_WRITE_BELOW, LEAF);
+    print(b"with HPD: ");
+    run(2, r.with_hpd0(true), write, NO_WRITE_BELOW, LEAF);
     let mut long = [0u8; TOO_LONG];
     run_long(&mut long, read);
     let mut memory = [0u8; LENGTH];

@@ -11,6 +11,11 @@ const CLEAN: u64 = 0x0008_0000_8000_53c3;
 const AF: u64 = 1 << 10;
 const AP2: u64 = 1 << 7;
 
+/// The level 2 descriptor, and bit 62 among a table's bits 62 to 59.
+const THIRD: usize = 0x2010;
+const TABLE: u64 = 0x4000_3003;
+const NO_WRITE: u64 = 0b1000;
+
 const REGIME: Regime = Regime {
     start: 0,
     length: 0x10000,
@@ -26,7 +31,9 @@ const REGIME: Regime = Regime {
     ha: 1,
     hd: 1,
     wxn: 0,
-    spare: [0; 8],
+    hpd0: 0,
+    hpd1: 0,
+    spare: [0; 6],
 };
 
 const READ: Access = Access {
@@ -47,8 +54,17 @@ fn memory() -> Vec<u8> {
     let mut memory = vec![0; 0x10000];
     put(&mut memory, 0x0000, 0x4000_1003);
     put(&mut memory, 0x1000, 0x4000_2003);
-    put(&mut memory, 0x2010, 0x4000_3003);
+    put(&mut memory, THIRD, TABLE);
     put(&mut memory, LEAF, CLEAN);
+    memory
+}
+
+/// The memory with bits 62 to 59 of the tables of levels 0 to 2.
+fn under([first, second, third]: [u64; 3]) -> Vec<u8> {
+    let mut memory = memory();
+    put(&mut memory, 0x0000, 0x4000_1003 | first << 59);
+    put(&mut memory, 0x1000, 0x4000_2003 | second << 59);
+    put(&mut memory, THIRD, TABLE | third << 59);
     memory
 }
 
@@ -99,6 +115,10 @@ fn flags_are_true_unless_0() {
         ..READ
     };
     let fetch = Access { kind: 3, ..READ };
+    let write_under = |regime, address| {
+        let write = Access { address, ..WRITE };
+        walk(&mut under([0, 0, NO_WRITE]), &regime, &write).code
+    };
     for flag in 1..=255 {
         let disabled0 = Regime {
             disabled0: flag,
@@ -125,6 +145,18 @@ fn flags_are_true_unless_0() {
         };
         assert_eq!(ask(REGIME, fetch).tag, 0);
         assert_eq!(ask(wxn, fetch).code, 15);
+        let hpd0 = Regime {
+            hpd0: flag,
+            ..REGIME
+        };
+        let hpd1 = Regime {
+            hpd1: flag,
+            ..REGIME
+        };
+        assert_eq!(write_under(hpd0, READ.address), 0);
+        assert_eq!(write_under(hpd0, upper.address), 15);
+        assert_eq!(write_under(hpd1, READ.address), 15);
+        assert_eq!(write_under(hpd1, upper.address), 0);
 
         // An EL1 fetch faults, for EL0 may write the page.
         let el0 = Access { el0: flag, ..fetch };
@@ -218,13 +250,20 @@ fn session_keeps_each_regime_field() {
         ..REGIME
     };
     // Each flag is on and off, and any two of them differ somewhere.
-    for [disabled0, disabled1, ha, hd, wxn] in [[1, 0, 1, 1, 0], [0, 1, 1, 0, 1], [1, 0, 0, 0, 1]] {
+    for [disabled0, disabled1, ha, hd, wxn, hpd0, hpd1] in [
+        [1, 0, 1, 1, 0, 1, 0],
+        [0, 1, 1, 0, 1, 1, 0],
+        [1, 0, 0, 0, 1, 1, 1],
+        [1, 0, 1, 0, 0, 0, 1],
+    ] {
         let regime = Regime {
             disabled0,
             disabled1,
             ha,
             hd,
             wxn,
+            hpd0,
+            hpd1,
             ..numbers
         };
         assert_eq!(session(regime).regime, regime);
@@ -233,9 +272,11 @@ fn session_keeps_each_regime_field() {
 }
 
 /// Two pools, alike but for the page's leaf in the second, and for what other
-/// roots and sizes lead to in the first.
+/// roots and sizes lead to in the first. In both, a table that takes writing
+/// away leads to the page too, from the next 2 MiB.
 fn two_pools() -> Vec<u8> {
     let mut memory = memory();
+    put(&mut memory, THIRD + 8, TABLE | NO_WRITE << 59);
     memory.extend_from_within(..);
     put(&mut memory, 0x10000 + LEAF, CLEAN + 0x1_0000);
     put(&mut memory, 0x0ff8, 0x4000_1003);
@@ -256,6 +297,11 @@ fn session_uses_each_regime_field() {
         ..READ
     };
     let fetch = Access { kind: 3, ..READ };
+    let under = |access: Access| Access {
+        address: access.address + (1 << 21),
+        kind: 1,
+        ..access
+    };
     let memory = two_pools();
     let over = |regime, access| {
         let mut plain = memory.clone();
@@ -274,7 +320,7 @@ fn session_uses_each_regime_field() {
     };
     let hd_off = Regime { hd: 0, ..REGIME };
     type Change = fn(&mut Regime);
-    let changes: [(Regime, Access, Change); 14] = [
+    let changes: [(Regime, Access, Change); 16] = [
         (REGIME, READ, |r| r.start = 0x10000),
         (REGIME, READ, |r| r.length = 0x3000),
         (REGIME, READ, |r| r.address = POOL - 0x1000),
@@ -289,6 +335,8 @@ fn session_uses_each_regime_field() {
         (hd_off, READ, |r| r.ha = 0),
         (REGIME, WRITE, |r| r.hd = 0),
         (REGIME, fetch, |r| r.wxn = 1),
+        (REGIME, under(READ), |r| r.hpd0 = 1),
+        (REGIME, under(upper), |r| r.hpd1 = 1),
     ];
     for (i, (mut regime, access, change)) in changes.into_iter().enumerate() {
         let before = over(regime, access);
@@ -370,6 +418,7 @@ fn session_keeps_each_entry_field() {
             assert_eq!(entry.page, page as u64);
             assert_eq!(entry.value, (CLEAN | AF) & !AP2);
             assert_eq!(entry.left, 0);
+            assert_eq!(entry.tables, 0);
             assert_ne!(entry.held, 0);
         } else {
             assert_eq!(entry.held, 0);
@@ -383,6 +432,19 @@ fn session_keeps_each_entry_field() {
         session_access(&mut session, &mut memory, &READ);
         let entry = session.entries[page % ENTRIES];
         assert_eq!((entry.value, entry.left), (0xc000_0641, left));
+    }
+
+    // The sum of the tables' bits 62 to 59, and not the block's own; with HPD
+    // none of them.
+    put(&mut memory, 0x0000, 0x4000_1003 | 0b1_0001 << 59);
+    put(&mut memory, 0x1000, 0x4000_2003 | 0b0_1001 << 59);
+    put(&mut memory, THIRD, 0xc000_0641 | 0b1_1111 << 59);
+    for (hpd0, tables) in [(0, 0b1001), (1, 0)] {
+        let regime = Regime { hpd0, ..REGIME };
+        assert_eq!(session_set_regime(&mut session, &memory, &regime), 0);
+        session_access(&mut session, &mut memory, &READ);
+        let entry = session.entries[page % ENTRIES];
+        assert_eq!((entry.left, entry.tables), (1, tables));
     }
 
     // A drop empties the entries and leaves the rest.
@@ -436,6 +498,76 @@ fn session_uses_each_entry_field() {
             _ => assert_eq!(answer, walked),
         }
     }
+
+    // Bit 2 of the sum takes EL0's reads away; bits 7 to 4 have no say.
+    for tables in 0..=255 {
+        let answer = with(Entry { tables, ..held });
+        let code = if tables & 4 == 0 { 0 } else { 15 };
+        assert_eq!((answer.code, answer.reads), (code, 0));
+    }
+}
+
+/// The leaf of the page with every combination of AP[1], AP[2], DBM, PXN and
+/// UXN, its Access flag set.
+fn every_leaf() -> impl Iterator<Item = u64> {
+    let bits = [6, 7, 51, 53, 54];
+    (0..32_u64).map(move |set| {
+        let put = |(i, bit): (usize, &u32)| (set >> i & 1) << bit;
+        0x8000_5703 | bits.iter().enumerate().map(put).sum::<u64>()
+    })
+}
+
+/// Asks for the leaf under each sum of the tables' bits: under one table, under
+/// three that have the bits between them, and in an entry that holds the sum.
+fn under_each_sum(regime: Regime, leaf: u64, access: Access) {
+    let walked = |sums: [u64; 3]| {
+        let mut memory = under(sums);
+        put(&mut memory, LEAF, leaf);
+        walk(&mut memory, &regime, &access)
+    };
+    for sum in 0..16 {
+        let answer = walked([0, 0, sum]);
+        assert_eq!(walked([sum, 0, 0]), answer);
+        assert_eq!(walked([sum & 0b1010, sum & 0b0110, sum & 0b0101]), answer);
+
+        let mut session = session(regime);
+        session.entries[0x403 % ENTRIES] = Entry {
+            page: 0x403,
+            value: leaf,
+            held: 1,
+            tables: sum as u8,
+            ..Entry::default()
+        };
+        let held = session_access(&mut session, &mut memory(), &access);
+        if answer.dirtied == 0 {
+            assert_eq!(held, Answer { reads: 0, ..answer });
+        } else {
+            // A dirty update walks the tables, which have another leaf.
+            assert_eq!(held.reads, 4);
+        }
+    }
+}
+
+#[test]
+fn a_held_sum_is_that_of_the_tables() {
+    for leaf in every_leaf() {
+        for access in every_kind() {
+            for wxn in [0, 1] {
+                under_each_sum(Regime { wxn, ..REGIME }, leaf, access);
+            }
+        }
+    }
+}
+
+#[test]
+fn a_held_sum_counts_with_hpd() {
+    // No call leaves one.
+    let mut session = session(REGIME);
+    session_access(&mut session, &mut memory(), &READ);
+    session.regime.hpd0 = 1;
+    session.entries[0x403 % ENTRIES].tables = 4;
+    let answer = session_access(&mut session, &mut memory(), &READ);
+    assert_eq!((answer.code, answer.reads), (15, 0));
 }
 
 #[test]
@@ -481,7 +613,9 @@ fn any_regime(state: &mut u64) -> Regime {
         ha: byte(),
         hd: byte(),
         wxn: byte(),
-        spare: [(); 8].map(|()| byte()),
+        hpd0: byte(),
+        hpd1: byte(),
+        spare: [(); 6].map(|()| byte()),
         ..REGIME
     };
     regime.root1 = next(state);
@@ -505,7 +639,8 @@ fn any_session(state: &mut u64) -> Session {
             value: next(state),
             left: next(state) as u8 & 7,
             held: next(state) as u8,
-            spare: [(); 6].map(|()| next(state) as u8),
+            tables: (next(state) & next(state)) as u8,
+            spare: [(); 5].map(|()| next(state) as u8),
         };
     }
     session.set = next(state) as u8;
@@ -523,7 +658,7 @@ fn any_bytes_are_a_session() {
         chunk.copy_from_slice(&next(&mut state).to_le_bytes());
     }
     let mut answers = [0; 3];
-    for _ in 0..10_000 {
+    for _ in 0..20_000 {
         let mut session = any_session(&mut state);
         let mut memory = around.clone();
         let access = Access {

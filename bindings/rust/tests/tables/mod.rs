@@ -20,6 +20,21 @@ pub const EXTERNAL_ABORT: Fault = Fault {
     reads: 4,
 };
 
+/// Bits of a table descriptor: what is below it may not be written
+/// (APTable[1]), not be accessed from EL0 (APTable[0]), not be fetched from EL0
+/// (UXNTable), not be fetched from EL1 (PXNTable).
+pub const NO_WRITE: u64 = 1 << 62;
+pub const NO_EL0: u64 = 1 << 61;
+pub const NO_EL0_FETCH: u64 = 1 << 60;
+pub const NO_EL1_FETCH: u64 = 1 << 59;
+
+/// Offsets of the three tables' descriptors, and what stands there.
+pub const TABLES: [(usize, u64); 3] = [
+    (0x0000, 0x4000_1003),
+    (0x1000, 0x4000_2003),
+    (0x2010, 0x4000_3003),
+];
+
 /// Offset of the leaf in the pool.
 pub const LEAF: usize = 0x3018;
 
@@ -38,10 +53,15 @@ pub fn get(memory: &[u8], offset: usize) -> u64 {
 }
 
 pub fn memory() -> Vec<u8> {
+    under([0; 3])
+}
+
+/// The memory with bits of the three tables.
+pub fn under(bits: [u64; 3]) -> Vec<u8> {
     let mut memory = vec![0; LENGTH];
-    put(&mut memory, 0x0000, 0x4000_1003);
-    put(&mut memory, 0x1000, 0x4000_2003);
-    put(&mut memory, 0x2010, 0x4000_3003);
+    for ((offset, table), bits) in TABLES.into_iter().zip(bits) {
+        put(&mut memory, offset, table | bits);
+    }
     put(&mut memory, LEAF, CLEAN);
     memory
 }

@@ -1,9 +1,11 @@
 use borrow.Author.Needs.{needs}
 use native.Mathlib.Omega.{arith}
-use Prim.Native.Nat.{ℕ, _<_, _+_, _*_}
+use Prim.Native.Nat.{ℕ, suc, _<_, _+_, _*_, _-_}
 use mathlib.Core.Path.{sym, ap, _∙_}
 use Rattle.geometry.specs.Geometry.{levelOf}
-use Rattle.lookup.specs.Packing.{joined, packed}
+use Rattle.vmsa.specs.Fields.{tableBits, withTable}
+use Rattle.vmsa.proofs.Tables.{or-bits}
+use Rattle.lookup.specs.Packing.{leafNumber, joined, packed}
 use Rattle.lookup.specs.Steps.{context, descend, Sound, fetched}
 use Rattle.lookup.specs.declared.Next.the-variants.{Table}
 use Rattle.lookup.proofs.Levels.{fault-packed, table-packed, leaf-packed, abort-packed, value-packed, down-up}
@@ -20,6 +22,7 @@ use Rattle.lookup.proofs.entry_at.Reads as entry-at-reads
 use Rattle.lookup.proofs.fetch.Reads as fetch-reads
 use Rattle.lookup.proofs.kind_number.Reads as kind-number-reads
 use Rattle.lookup.proofs.pack.Reads as pack-reads
+use Rattle.lookup.proofs.table_bits.Reads as table-bits-reads
 use Rattle.lookup.proofs.+enter+follow.{statement}
 use Rattle.lookup.proofs.+enter+follow.Tie.{close}
 
@@ -45,7 +48,7 @@ abbrev enter-calls : ℕ → enter-lts.Claims
 enter-calls t = (entry-at-reads.Asked, entry-at-reads.Learnt, fetch-reads.Asked, fetch-reads.Learnt, kind-number-reads.Asked, kind-number-reads.Learnt, pack-reads.Asked, pack-reads.Learnt, follow-below t, follow.Post)
 
 abbrev follow-calls : ℕ → follow-lts.Claims
-follow-calls t = (decode-reads.Asked, decode-reads.Learnt, kind-number-reads.Asked, kind-number-reads.Learnt, pack-reads.Asked, pack-reads.Learnt, enter-below t, enter.Post)
+follow-calls t = (decode-reads.Asked, decode-reads.Learnt, kind-number-reads.Asked, kind-number-reads.Learnt, pack-reads.Asked, pack-reads.Learnt, enter-below t, enter.Post, table-bits-reads.Asked, table-bits-reads.Learnt)
 
 enter-entry-at-requires : (t : ℕ) → enter-lts.Need-entry-at-requires (enter-calls t) (enter-at t) enter.Post
 enter-entry-at-requires t c κs = search needs
@@ -59,9 +62,6 @@ enter-enum-known-v t c = search needs
 enter-enum-told : (t : ℕ) → enter-lts.Need-enum-told (enter-calls t) (enter-at t) enter.Post
 enter-enum-told t c = search needs
 
-enter-add-pack : (t : ℕ) → enter-lts.Need-add-pack (enter-calls t) (enter-at t) enter.Post
-enter-add-pack t c = search needs
-
 enter-kind-number-requires : (t : ℕ) → enter-lts.Need-kind-number-requires (enter-calls t) (enter-at t) enter.Post
 enter-kind-number-requires t c κs = search needs
 
@@ -74,12 +74,9 @@ enter-returns t c =
     let k = context (a .base) (a .limit) (a .input) (a .page) in
     let read = fetched (a .pool .now) (a .base .0) in
     c .pack .ensures
-    ∙ ap (λ (number : ℕ). joined (a .reads + 1) (levelOf (a .left)) number 0) (c .before .kind-number .ensures .0)
-    ∙ sym (abort-packed k read (a .left) (a .table .0) (a .reads)
+    ∙ ap (λ (number : ℕ). joined (levelOf (a .left)) number 0 0) (c .before .kind-number .ensures .0)
+    ∙ sym (abort-packed k read (a .left) (tableBits (a .tables)) (a .table .0)
     (rw (← c .before .before .before .before .before .entry-at .ensures .0) (sym (c .before .before .before .before .fetch .ensures) ∙ c .before .before .enum-told .given .1)))
-
-enter-add-follow : (t : ℕ) → enter-lts.Need-add-follow (enter-calls t) (enter-at t) enter.Post
-enter-add-follow t c = search needs
 
 enter-follow-requires : (t : ℕ) → enter-lts.Need-follow-requires (enter-calls t) (enter-at t) enter.Post
 enter-follow-requires t c κs = search needs
@@ -90,7 +87,7 @@ enter-returns-2 t c =
     let k = context (a .base) (a .limit) (a .input) (a .page) in
     let read = fetched (a .pool .now) (a .base .0) in
     c .follow .ensures
-    ∙ sym (rw (← c .before .before .before .before .before .entry-at .ensures .0) at (value-packed k read (a .left) (a .table .0) (a .reads) (c .before .before .v .given .0 .0)
+    ∙ sym (rw (← c .before .before .before .before .before .entry-at .ensures .0) at (value-packed k read (a .left) (tableBits (a .tables)) (a .table .0) (c .before .before .v .given .0 .0)
     (rw (← c .before .before .before .before .before .entry-at .ensures .0) (sym (c .before .before .before .before .fetch .ensures) ∙ c .before .before .v .given .1))))
 
 follow-decode-requires : (t : ℕ) → follow-lts.Need-decode-requires (follow-calls t) (follow-at t) follow.Post
@@ -121,6 +118,9 @@ follow-enter-requires t c κs =
 follow-enum-told : (t : ℕ) → follow-lts.Need-enum-told (follow-calls t) (follow-at t) follow.Post
 follow-enum-told t c = search needs
 
+follow-table-bits-requires : (t : ℕ) → follow-lts.Need-table-bits-requires (follow-calls t) (follow-at t) follow.Post
+follow-table-bits-requires t c κs = search needs
+
 follow-pack-requires-2 : (t : ℕ) → follow-lts.Need-pack-requires-2 (follow-calls t) (follow-at t) follow.Post
 follow-pack-requires-2 t c κs = search needs
 
@@ -130,8 +130,8 @@ follow-returns t c =
     let k = context (a .base) (a .limit) (a .input) (a .page) in
     let read = fetched (a .pool .now) (a .base .0) in
     c .pack .ensures
-    ∙ ap (λ (number : ℕ). joined (a .reads) (levelOf (a .left)) number 0) (c .before .kind-number .ensures .0)
-    ∙ sym (fault-packed k (descend k read (a .left)) (a .left) (a .at .0) (a .v) (a .reads) _ (sym (c .before .before .before .before .before .decode .ensures .0) ∙ c .before .before .before .kind .given .1))
+    ∙ ap (λ (number : ℕ). joined (levelOf (a .left)) number 0 0) (c .before .kind-number .ensures .0)
+    ∙ sym (fault-packed k (descend k read (a .left)) (tableBits (a .tables)) (a .left) (a .at .0) (a .v) _ (sym (c .before .before .before .before .before .decode .ensures .0) ∙ c .before .before .before .kind .given .1))
 
 follow-returns-2 : (t : ℕ) → follow-lts.Need-returns-2 (follow-calls t) (follow-at t) follow.Post
 follow-returns-2 t c =
@@ -140,16 +140,18 @@ follow-returns-2 t c =
     let read = fetched (a .pool .now) (a .base .0) in
     let h : Sound (c .before .before .before .before .before .before .args .left) (Table (c .before .before .table .given .0 .0)) = rw (c .before .before .table .given .1) at (c .before .before .before .before .decode .ensures .1) in
     c .enter .ensures
-    ∙ sym (table-packed k (descend k read (a .left)) (a .left) (a .at .0) (a .v) (a .reads) _ (sym (c .before .before .before .before .decode .ensures .0) ∙ c .before .before .table .given .1)
-    ∙ ap (λ (n : ℕ). packed (a .reads) (descend k read n (c .before .before .table .given .0 .0 .0))) (sym (down-up (a .left) (h .1))))
+    ∙ sym (table-packed k (descend k read (a .left)) (tableBits (a .tables)) (a .left) (a .at .0) (a .v) _ (sym (c .before .before .before .before .decode .ensures .0) ∙ c .before .before .table .given .1)
+    ∙ ap (λ (n : ℕ). packed (descend k read n (withTable (tableBits (a .tables)) (a .v)) (c .before .before .table .given .0 .0 .0))) (sym (down-up (a .left) (h .1)))
+    ∙ ap (λ (sum : ℕ). packed (descend k read (suc (a .left - 1)) sum (c .before .before .table .given .0 .0 .0))) (sym (or-bits (a .tables) (a .v))))
 
 follow-returns-3 : (t : ℕ) → follow-lts.Need-returns-3 (follow-calls t) (follow-at t) follow.Post
 follow-returns-3 t c =
-    let a = c .before .before .before .before .before .args in
+    let a = c .before .before .before .before .before .before .args in
     let k = context (a .base) (a .limit) (a .input) (a .page) in
     let read = fetched (a .pool .now) (a .base .0) in
     c .pack2 .ensures
-    ∙ sym (leaf-packed k (descend k read (a .left)) (a .left) (a .at .0) (a .v) (a .reads) (sym (c .before .before .before .decode .ensures .0) ∙ c .before .enum-told .given .1))
+    ∙ ap (λ (sum : ℕ). joined (levelOf (a .left)) leafNumber sum (a .at .0)) (c .before .table-bits .ensures .0)
+    ∙ sym (leaf-packed k (descend k read (a .left)) (tableBits (a .tables)) (a .left) (a .at .0) (a .v) (sym (c .before .before .before .before .decode .ensures .0) ∙ c .before .before .enum-told .given .1))
 
 pub +enter+follow-spec : {M : Type 1} → statement M
 +enter+follow-spec = close μ-enter μ-follow (λ t. enter-lts.spec (enter-calls t)
@@ -159,11 +161,9 @@ pub +enter+follow-spec : {M : Type 1} → statement M
     (enter-fetch-requires t)
     (enter-enum-known-v t)
     (enter-enum-told t)
-    (enter-add-pack t)
     (enter-kind-number-requires t)
     (enter-pack-requires t)
     (enter-returns t)
-    (enter-add-follow t)
     (enter-follow-requires t)
     (enter-returns-2 t))
     λ t. follow-lts.spec (follow-calls t)
@@ -177,6 +177,7 @@ pub +enter+follow-spec : {M : Type 1} → statement M
     (follow-sub-enter t)
     (follow-enter-requires t)
     (follow-enum-told t)
+    (follow-table-bits-requires t)
     (follow-pack-requires-2 t)
     (follow-returns t)
     (follow-returns-2 t)

@@ -5,7 +5,7 @@ use Rattle.permission.proofs.user.Tie as tie
 
 returns : tie.Need-returns
 unfolding user
-returns c = c .bit .ensures
+returns c = rw (c .before .bit .ensures, c .below .ensures)
 
 pub user-spec : {M : Type 1} → statement M
-user-spec = tie.close (tie.spec (λ c κs. search needs) returns)
+user-spec = tie.close (tie.spec (λ c κs. search needs) (λ c κs. search needs) returns)

@@ -14,12 +14,16 @@ fn bytes<T: Plain>(of: &mut T) -> &mut [u8] {
     unsafe { std::slice::from_raw_parts_mut(std::ptr::from_mut(of).cast(), size_of::<T>()) }
 }
 
-/// A session's spare bytes: its own, its regime's, its entries'.
+/// A session's spare bytes: its own, its regime's, its entries'; and the spare
+/// bits of an entry's sum.
 fn each_spare(session: &mut Session, mut each: impl FnMut(&mut [u8])) {
     each(&mut session.regime.spare);
     each(&mut session.spare);
     for entry in &mut session.entries {
         each(&mut entry.spare);
+        let mut high = [entry.tables & 0xf0];
+        each(&mut high);
+        entry.tables = entry.tables & 0x0f | high[0] & 0xf0;
     }
 }
 
@@ -93,6 +97,7 @@ impl List {
             ha: self.below(8) as u8,
             hd: self.below(2) as u8,
             wxn: self.below(2) as u8,
+            hpd0: self.below(4) as u8 / 3,
             ..REGIME
         };
         self.noise.fill(&mut regime.spare);
@@ -149,7 +154,10 @@ impl List {
                 self.log.push(reply);
             }
             1 => {
-                let (address, value) = (POOL + 0x3000 + self.below(0x400), CLEAN);
+                let (address, value) = match self.below(4) {
+                    0 => (POOL + THIRD as u64, TABLE | self.below(16) << 59),
+                    _ => (POOL + 0x3000 + self.below(0x400), CLEAN),
+                };
                 let reply = session_store(&mut self.session, &mut self.memory, address, value);
                 self.log.push(reply);
             }
@@ -194,7 +202,7 @@ fn zero_where_written() {
     // A session with a byte in all that is spare, and a regime and an access.
     const BYTE: u8 = 0xa5;
     let regime = Regime {
-        spare: [BYTE; 8],
+        spare: [BYTE; 6],
         ..REGIME
     };
     let read = Access {

@@ -1,0 +1,186 @@
+//! Sessions of any bytes, as no call leaves them (RULES 10.5), and a few calls
+//! on each. Rule 3 does not speak of them.
+
+use super::play::{ask, differences, Arena};
+use super::tally::Tally;
+use super::world::{draw_usable_leaf, vary, Leaves, World};
+use crate::boundary::{CEntry, CSession, Spelling, Subject, SUM_BITS};
+use crate::cases::scene::{draw_access, draw_table, HD_ALONE};
+use crate::random::Random;
+use crate::reference::{Regime, GRANULE, PHYSICAL_LIMIT};
+use crate::session::{page_of, Call, Session, PLACES};
+use std::array;
+
+const FAMILY: &str = "foreign";
+const SESSIONS: u64 = 1_000;
+const CALLS: u32 = 24;
+
+/// A session of any bytes, held against what the reference reads in them.
+struct Guest<S> {
+    bytes: CSession,
+    subject: S,
+    session: Session,
+    arena: Arena,
+    memory: Vec<u8>,
+    calls: Vec<Call>,
+}
+
+/// Plays calls to all sessions. Ends at the first difference, which it tells.
+pub fn run_all<S: Subject>(
+    random: &mut Random,
+    trace: bool,
+    fresh: impl Fn(u64) -> Result<S, String>,
+    tally: &mut Tally,
+) -> Result<(), String> {
+    for number in 1..=SESSIONS {
+        tally.begin(FAMILY);
+        let mut random = Random::new(random.bits());
+        let world = World::planned(&mut random, Leaves::Mixed);
+        let mut subject = fresh(random.bits())?;
+        let bytes = draw_bytes(&mut random, &world);
+        subject.put(&bytes);
+        let mut guest = Guest {
+            bytes,
+            subject,
+            session: bytes.read(),
+            arena: Arena::new(&world.memory, (number % 16) as usize),
+            memory: world.memory.clone(),
+            calls: Vec::new(),
+        };
+        for _ in 0..CALLS {
+            let call = guest.draw_call(&mut random, &world);
+            let spelling = Spelling::draw(&mut random);
+            if trace {
+                eprintln!("session {number} of any bytes: {call:x?}");
+            }
+            let played = guest.play(call, world.length, spelling, tally);
+            played.map_err(|why| guest.tell(number, &why))?;
+        }
+    }
+    Ok(())
+}
+
+impl<S: Subject> Guest<S> {
+    fn play(
+        &mut self,
+        call: Call,
+        length: usize,
+        spelling: Spelling,
+        tally: &mut Tally,
+    ) -> Result<(), Vec<String>> {
+        self.calls.push(call);
+        let before = self.session.clone();
+        let (wanted, seen) = ask(&mut self.session, &mut self.memory[..length], &call);
+        let got = self.subject.call(self.arena.lend(length), &call, spelling);
+        let mut why = differences(&wanted, &got, &self.memory, &self.arena);
+        why.extend(self.subject.wrong_bytes(&call, &got));
+        why.extend(self.subject.wrong_session(&self.session));
+        if !why.is_empty() {
+            return Err(why);
+        }
+        tally.note_foreign(&self.bytes, &before, &call, seen.as_ref());
+        Ok(())
+    }
+
+    /// Mostly an access of a page that one of the entries names.
+    fn draw_call(&self, random: &mut Random, world: &World) -> Call {
+        match random.below(24) {
+            0 => Call::DropAll,
+            1 => Call::SetRegime(random.pick(&world.regimes)),
+            2 | 3 => self.draw_store(random, world),
+            _ => {
+                let named = random.pick(&self.bytes.entries).page;
+                let page = match random.below(6) {
+                    0 => random.pick(&world.pages),
+                    _ => named.wrapping_mul(GRANULE),
+                };
+                Call::Access(draw_access(random, page))
+            }
+        }
+    }
+
+    fn draw_store(&self, random: &mut Random, world: &World) -> Call {
+        let pool = self
+            .session
+            .regime
+            .map_or(world.regimes[0].pool, |r| r.pool);
+        let number = random.below(pool.length as u64 / 8 + 1);
+        let output = random.below(PHYSICAL_LIMIT);
+        Call::Store {
+            address: pool.address.wrapping_add(number.wrapping_mul(8)),
+            value: match random.below(3) {
+                0 => random.bits(),
+                1 => draw_table(random, world.regimes[0].pool.address),
+                _ => draw_usable_leaf(random, 3, output, Leaves::Clean),
+            },
+        }
+    }
+
+    /// Everything there is to know about a session that failed.
+    fn tell(&self, number: u64, why: &[String]) -> String {
+        let mut lines = vec![format!("DIFFERENCE in session {number} of any bytes")];
+        lines.extend(why.iter().cloned());
+        lines.push(format!("it began as: {:x?}", self.bytes.read()));
+        lines.extend(self.calls.iter().map(|call| format!("{call:x?}")));
+        lines.join("\n  ")
+    }
+}
+
+fn draw_bytes(random: &mut Random, world: &World) -> CSession {
+    let regime = draw_regime(random, &world.regimes[0]);
+    CSession {
+        regime: Spelling::draw(random).regime(&regime),
+        entries: array::from_fn(|place| draw_entry(random, world, place as u64)),
+        set: random.pick(&[0, 1, 1, 1, 1, 2, 0x80, 0xFF]),
+        spare: array::from_fn(|_| random.bits() as u8),
+    }
+}
+
+/// A regime that is accepted, or that a row would refuse.
+fn draw_regime(random: &mut Random, home: &Regime) -> Regime {
+    let mut regime = if random.coin() {
+        *home
+    } else {
+        vary(random, home)
+    };
+    let range = random.below(2) as usize;
+    match random.below(16) {
+        0 => regime.pool.start = random.pick(&[8, usize::MAX, usize::MAX - 4095]),
+        1 => regime.pool.address |= 1 << random.below(12),
+        2 => regime.pool.address = random.pick(&[PHYSICAL_LIMIT, u64::MAX, u64::MAX - 4095]),
+        3 => regime.ranges[range].t = random.pick(&[0, 1, 15, 40, 63, 64, 0xFF]),
+        4 => regime.output_code = random.pick(&[6, 7, 8, 0xFF]),
+        5 => regime.ranges[range].root |= 1 << random.below(12),
+        6 => regime.ranges[range].root |= 1 << random.between(48, 63),
+        7 => regime.attributes = random.bits().to_le_bytes(),
+        8 => (regime.ha, regime.hd) = HD_ALONE,
+        _ => {}
+    }
+    regime
+}
+
+/// An entry of any bytes, or one that mostly holds a page of its place.
+fn draw_entry(random: &mut Random, world: &World, place: u64) -> CEntry {
+    let near = page_of(random.pick(&world.pages));
+    let output = random.below(PHYSICAL_LIMIT);
+    let level = random.between(1, 3) as usize;
+    let any = random.bits();
+    CEntry {
+        page: match random.below(12) {
+            0 => any,
+            _ => near - near % PLACES as u64 + place,
+        },
+        value: match random.below(6) {
+            0 => random.bits(),
+            _ => draw_usable_leaf(random, level, output, Leaves::Mixed),
+        },
+        left: random.pick(&[0, 0, 0, 1, 1, 2, 2, 3, 4, 0x83, 0xFF]),
+        held: random.pick(&[0, 1, 1, 1, 1, 2, 0x80, 0xFF]),
+        tables: match random.below(3) {
+            0 => any as u8 & !SUM_BITS,
+            1 => any as u8 & !SUM_BITS | 1 << random.below(4),
+            _ => any as u8,
+        },
+        spare: array::from_fn(|_| random.bits() as u8),
+    }
+}
