@@ -97,14 +97,14 @@ withThird v = tablesWith v leaf
 abbrev pub tables : List (ℕ × ℕ)
 tables = withLeaf leaf
 
--- a leaf of EL1 alone, from which both levels may fetch, and it with the Access flag set
+-- a leaf that EL0 may neither read nor write, so that both levels may fetch from it; and it with the Access flag set
 abbrev pub kernelLeaf : ℕ
 kernelLeaf = 0x0008000080005383
 
 abbrev pub accessedKernelLeaf : ℕ
 accessedKernelLeaf = 0x0008000080005783
 
--- the four descriptors under a second table with bits 63 to 59 as in this digit and a half, and with this leaf
+-- the four descriptors, the second with bits 63 to 59 as in this number of five bits, and with this leaf
 abbrev pub underSecond : ℕ → ℕ → List (ℕ × ℕ)
 underSecond bits v = descriptors 0x40001003 (bits * 0x0800000000000000 + 0x40002003) 0x40003003 v
 
@@ -227,10 +227,17 @@ rows =
     ∷ row base (fromEl1 (usual Fetch)) (underSecond 0b00010 kernelLeaf) (passed 0x80005ABC true false true) (leafNow accessedKernelLeaf)
     ∷ row base (usual Fetch) (underSecond 0b00001 kernelLeaf) (passed 0x80005ABC true false true) (leafNow accessedKernelLeaf)
     ∷ row base (fromEl1 (usual Fetch)) (underSecond 0b00001 kernelLeaf) (failed 15 3 false 4) []
-    -- where EL0 may write EL1 may not fetch; under bit 61 or 62 of a table EL0 may not, and EL1 may
+    -- where EL0 may write EL1 may not fetch; with bit 61 or 62 in the sum EL0 may not write, and EL1 may fetch
     ∷ row base (fromEl1 (usual Fetch)) tables (failed 15 3 false 4) []
     ∷ row base (fromEl1 (usual Fetch)) (underSecond 0b00100 leaf) (passed 0x80005ABC true false true) (leafNow accessedLeaf)
     ∷ row base (fromEl1 (usual Fetch)) (underSecond 0b01000 leaf) (passed 0x80005ABC true false true) (leafNow accessedLeaf)
+    -- the same where WXN asks: EL0 may fetch what it may not write, EL1 what nobody may write
+    ∷ row (withWxn base true) (usual Fetch) (underSecond 0b00100 leaf) (passed 0x80005ABC true false true) (leafNow accessedLeaf)
+    ∷ row (withWxn base true) (usual Fetch) (underSecond 0b01000 leaf) (passed 0x80005ABC true false true) (leafNow accessedLeaf)
+    ∷ row (withWxn base true) (fromEl1 (usual Fetch)) (underSecond 0b00100 leaf) (failed 15 3 false 4) []
+    ∷ row (withWxn base true) (fromEl1 (usual Fetch)) (underSecond 0b01000 leaf) (passed 0x80005ABC true false true) (leafNow accessedLeaf)
+    -- bit 62 over a leaf that is dirty already; the fault may be remembered
+    ∷ row base (usual Write) (underSecond 0b01000 dirtyLeaf) (failed 15 3 true 4) []
     -- UXN from the first table and PXN from the third add up
     ∷ row base (usual Fetch) (descriptors 0x1000000040001003 0x40002003 0x0800000040003003 kernelLeaf) (failed 15 3 false 4) []
     ∷ row base (fromEl1 (usual Fetch)) (descriptors 0x1000000040001003 0x40002003 0x0800000040003003 kernelLeaf) (failed 15 3 false 4) []

@@ -1,5 +1,5 @@
 -- One level of the lookup as the code hands it on; and steps 1 and 2.
-use Prim.Native.Nat.{ℕ, suc, _+_, _-_, _%_, _^_, _<_, _≤_}
+use Prim.Native.Nat.{ℕ, suc, _-_, _%_, _^_, _<_, _≤_}
 use mathlib.Core.Bool.{true, false, not, _||_}
 use mathlib.Core.Path.{_≡_}
 use native.Mathlib.Nat.{pos-of-ne-zero}
@@ -9,7 +9,7 @@ use borrow.Author.Tests.{eqb-false, not-true, le-leb, lt-leb}
 use Rattle.descriptor.specs.Bits.{bit}
 use Rattle.descriptor.proofs.Tests.{and-true}
 use Rattle.vmsa.specs.Limits.{pageBits}
-use Rattle.vmsa.specs.Fields.{withTable}
+use Rattle.vmsa.specs.Fields.{noTables, withTable}
 use Rattle.geometry.specs.Geometry.{levelOf, firstLeft, outputLimit}
 use Rattle.vmsa.specs.declared.Regime.{Regime}
 use Rattle.vmsa.specs.declared.Range.{Range}
@@ -20,8 +20,8 @@ use Rattle.lookup.specs.declared.Word.{Word}
 use Rattle.lookup.specs.declared.Word.the-variants.{Value, Unreachable}
 use Rattle.lookup.specs.declared.Next.the-variants as next
 use Rattle.lookup.specs.declared.Context.{Context}
-use Rattle.lookup.specs.Trace.{fault, Trace, ended, counted}
-use Rattle.lookup.specs.Steps.{isTable, decoded, followed, context, entryAt, entered, descend, rangeOf, outside, contextOf, noTables, locate}
+use Rattle.lookup.specs.Trace.{fault, Trace, ended, heeded}
+use Rattle.lookup.specs.Steps.{isTable, decoded, followed, context, entryAt, entered, descend, rangeOf, outside, contextOf, locate}
 use Rattle.lookup.specs.Packing.{kindNumber, leafNumber, joined, packed}
 
 -- a table has a level below it
@@ -72,7 +72,7 @@ module _ (r : Regime) (read : ℕ → Word) (a : ℕ) (range : Range) (e : range
   pub locate-go : (range .disabled || outside (range .tsz) a) ≡ false → (limit power left : ℕ) → limit ≡ outputLimit (r .output) → range .root .0 < limit
       → power ≡ 2 ^ (64 - range .tsz) → left ≡ firstLeft pageBits (range .tsz)
       → (c : Context) → c ≡ context (r .pool .address) (record { 0 = limit }) (record { 0 = a % power }) pageBits
-      → locate r read a ≡ counted (range .hpd) (descend c read (suc left) noTables (range .root .0))
+      → locate r read a ≡ heeded (range .hpd) (descend c read (suc left) noTables (range .root .0))
   unfolding locate contextOf
   locate-go h limit power left el q ep ef c ec =
       let h2 : (rangeOf r a .disabled || outside (rangeOf r a .tsz) a) ≡ false = rw e at h in

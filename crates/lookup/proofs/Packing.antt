@@ -1,6 +1,6 @@
 -- The digits of a packed lookup, and what they say of every lookup that the number stands for.
 use Prim.Native.Nat.{ℕ, suc, _+_, _-_, _/_, _%_, _≤_, _<_, suc-le-suc}
-use mathlib.Core.Bool.{Bool, true, false}
+use mathlib.Core.Bool.{Bool}
 use mathlib.Core.List.{List}
 use mathlib.Core.Path.{_≡_, refl, ap, _∙_}
 use native.Mathlib.Nat.{add-zero, zero-add}
@@ -10,15 +10,15 @@ use lib.ListN.{length}
 use Rattle.descriptor.specs.Bytes.{desc}
 use Rattle.descriptor.specs.Bits.{pick}
 use Rattle.geometry.specs.Geometry.{levelOf}
-use Rattle.vmsa.specs.Fields.{tableBits}
+use Rattle.vmsa.specs.Fields.{tableBits, noTables}
 use Rattle.vmsa.proofs.Tables.{no-bits}
 use Rattle.vmsa.specs.declared.FaultKind.{FaultKind}
 use Rattle.vmsa.specs.declared.FaultKind.the-variants.{AddressSize, Translation, AccessFlag, Permission, ExternalAbort, Alignment}
 use Rattle.lookup.specs.declared.Ending.the-variants as ending
 use Rattle.lookup.specs.declared.Located.{Located}
 use Rattle.lookup.specs.declared.Context.{Context}
-use Rattle.lookup.specs.Trace.{End, fault, leaf, ended, countedEnd, counted, shownEnd, shown}
-use Rattle.lookup.specs.Steps.{fetched, descend, noTables}
+use Rattle.lookup.specs.Trace.{End, fault, leaf, ended, heededEnd, heeded, shownEnd, shown}
+use Rattle.lookup.specs.Steps.{fetched, descend}
 use Rattle.lookup.specs.Packing.{kindNumber, kindNumbered, leafNumber, joined, packedEnd, packed, endLevel, Backed, Packs}
 use Rattle.lookup.proofs.Reach.{in-pool, descend-reads, descend-backed}
 
@@ -95,14 +95,14 @@ module _ (pool : List ℕ) (base : ℕ) (hpd : Bool) (first n : ℕ) where
   }
 
   fault-by : (k : ℕ) (e : End) → n ≡ packedEnd e → k + first ≡ suc (endLevel e) → Backed pool base e → (numberIn n ≡ leafNumber → ⊥)
-      → shownEnd (readsFrom first (levelIn n)) (fault (kindNumbered (numberIn n)) (levelIn n)) ≡ shownEnd k (countedEnd hpd e)
+      → shownEnd (readsFrom first (levelIn n)) (fault (kindNumbered (numberIn n)) (levelIn n)) ≡ shownEnd k (heededEnd hpd e)
   fault-by k (fault kind level) q h w x =
       let d = digits n level (kindNumber kind) 0 0 q w (omega (arith, kind-back kind .0)) (lit< tt) in
       rw (d .level-is, d .number-is, kind-back kind .1, reads-from k first level h)
   fault-by k (leaf a l) q h w x = absurd (x (digits n (levelOf (l .left)) leafNumber (l .tables) a q (level-le (l .left)) (lit≤ tt) (w .1) .number-is))
 
   leaf-by : (k : ℕ) (e : End) → n ≡ packedEnd e → k + first ≡ suc (endLevel e) → Backed pool base e → numberIn n ≡ leafNumber
-      → (base ≤ placeIn n) × (placeIn n + 8 ≤ base + length pool) × (leafIn ≡ shownEnd k (countedEnd hpd e))
+      → (base ≤ placeIn n) × (placeIn n + 8 ≤ base + length pool) × (leafIn ≡ shownEnd k (heededEnd hpd e))
   leaf-by k (fault kind level) q h w x =
       absurd (let z = kind-back kind .0 in let d = digits n level (kindNumber kind) 0 0 q w (omega arith) (lit< tt) .number-is in omega arith)
   leaf-by k (leaf a l) q h w x =
@@ -123,10 +123,10 @@ module _ (pool : List ℕ) (base : ℕ) (hpd : Bool) (first n : ℕ) where
     pub first-most : first ≤ levelIn n + 1
     first-most = let e = level-by (p .trace .end) same (p .end) in let r = p .reads in omega arith
 
-    pub fault-unpacked : (numberIn n ≡ leafNumber → ⊥) → shown (readsFrom first (levelIn n)) (ended (fault (kindNumbered (numberIn n)) (levelIn n))) ≡ shown 0 (counted hpd (p .trace))
+    pub fault-unpacked : (numberIn n ≡ leafNumber → ⊥) → shown (readsFrom first (levelIn n)) (ended (fault (kindNumbered (numberIn n)) (levelIn n))) ≡ shown 0 (heeded hpd (p .trace))
     unfolding shown
     fault-unpacked x = rw (add-zero (readsFrom first (levelIn n)), zero-add (length (p .trace .visited))) (fault-by (length (p .trace .visited)) (p .trace .end) same (p .reads) (p .end) x)
 
-    pub leaf-unpacked : numberIn n ≡ leafNumber → (base ≤ placeIn n) × (placeIn n + 8 ≤ base + length pool) × (leafIn ≡ shown 0 (counted hpd (p .trace)))
+    pub leaf-unpacked : numberIn n ≡ leafNumber → (base ≤ placeIn n) × (placeIn n + 8 ≤ base + length pool) × (leafIn ≡ shown 0 (heeded hpd (p .trace)))
     unfolding shown
     leaf-unpacked x = rw (zero-add (length (p .trace .visited))) (leaf-by (length (p .trace .visited)) (p .trace .end) same (p .reads) (p .end) x)

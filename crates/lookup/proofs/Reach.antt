@@ -12,7 +12,7 @@ use Rattle.descriptor.specs.Bytes.{desc}
 use Rattle.descriptor.specs.Bits.{pick}
 use Rattle.descriptor.proofs.Tests.{clash, and-true, pick-both}
 use Rattle.vmsa.specs.Limits.{pageBits, tszLeast, Sized}
-use Rattle.vmsa.specs.Fields.{withTable}
+use Rattle.vmsa.specs.Fields.{noTables, withTable}
 use Rattle.vmsa.proofs.Tables.{sum-below}
 use Rattle.vmsa.specs.declared.Leaf.{Leaf}
 use Rattle.geometry.specs.Geometry.{levelOf, firstLeft, outputLimit, Paged}
@@ -26,8 +26,8 @@ use Rattle.lookup.specs.declared.Word.the-variants.{Value, Unreachable}
 use Rattle.lookup.specs.declared.Next.{Next}
 use Rattle.lookup.specs.declared.Next.the-variants as next
 use Rattle.lookup.specs.declared.Context.{Context}
-use Rattle.lookup.specs.Trace.{End, fault, leaf, Trace, ended, countedEnd, counted}
-use Rattle.lookup.specs.Steps.{decoded, fetched, onward, onWord, followed, entryAt, entered, descend, upper, rangeOf, outside, contextOf, noTables, locate}
+use Rattle.lookup.specs.Trace.{End, fault, leaf, Trace, ended, heededEnd, heeded}
+use Rattle.lookup.specs.Steps.{decoded, fetched, onward, onWord, followed, entryAt, entered, descend, upper, rangeOf, outside, contextOf, locate}
 use Rattle.lookup.specs.Packing.{endLevel, Backed}
 use Rattle.lookup.proofs.Decoding.{is-table, aligned8}
 
@@ -95,7 +95,7 @@ unfolding locate
 locate-visited r read a z =
     let range = rangeOf r a in
     let c = contextOf r a in
-    let deep = counted (range .hpd) (descend c read (suc (firstLeft pageBits (range .tsz))) noTables (range .root .0)) in
+    let deep = heeded (range .hpd) (descend c read (suc (firstLeft pageBits (range .tsz))) noTables (range .root .0)) in
     let short : Trace → Type 0 = λ t. length (t .visited) ≤ 4 in
     let beyond = leb (outputLimit (r .output)) (range .root .0) in
     let h : length (deep .visited) ≤ 4 =
@@ -110,15 +110,15 @@ abbrev ReadOnce : Trace → End → Type 0
 ReadOnce t (fault kind level) = Unit {0}
 ReadOnce t (leaf a l) = 1 ≤ length (t .visited)
 
-read-once : (c : Context) (read : ℕ → Word) (hpd : Bool) (n s t : ℕ) → ReadOnce (counted hpd (descend c read (suc n) s t)) (counted hpd (descend c read (suc n) s t) .end)
+read-once : (c : Context) (read : ℕ → Word) (hpd : Bool) (n s t : ℕ) → ReadOnce (heeded hpd (descend c read (suc n) s t)) (heeded hpd (descend c read (suc n) s t) .end)
 unfolding descend entered
 read-once c read hpd n s t = by (onWord (ended (fault ExternalAbort (levelOf n))) (followed c (descend c read n) s n (entryAt c n t)) (read (entryAt c n t)))
   where
-    by-end : (l : List ℕ) (e : End) → ReadOnce (record { visited = entryAt c n t ∷ l; end = countedEnd hpd e }) (countedEnd hpd e)
+    by-end : (l : List ℕ) (e : End) → ReadOnce (record { visited = entryAt c n t ∷ l; end = heededEnd hpd e }) (heededEnd hpd e)
     by-end l (fault kind level) = tt
     by-end l (leaf a x) = suc-le-suc zero-le
 
-    by : (u : Trace) → ReadOnce (record { visited = entryAt c n t ∷ u .visited; end = countedEnd hpd (u .end) }) (countedEnd hpd (u .end))
+    by : (u : Trace) → ReadOnce (record { visited = entryAt c n t ∷ u .visited; end = heededEnd hpd (u .end) }) (heededEnd hpd (u .end))
     by u = by-end (u .visited) (u .end)
 
 pub locate-read : (r : Regime) (read : ℕ → Word) (a : ℕ) {at : ℕ} {l : Leaf} → locate r read a .end ≡ leaf at l → 1 ≤ length (locate r read a .visited)
@@ -135,7 +135,7 @@ locate-read r read a {at} {l} q = subst (ReadOnce (locate r read a)) q (once r r
     once r read a =
         let range = rangeOf r a in
         picked (range .disabled || outside (range .tsz) a) (leb (outputLimit (r .output)) (range .root .0))
-        (counted (range .hpd) (descend (contextOf r a) read (suc (firstLeft pageBits (range .tsz))) noTables (range .root .0))) (read-once (contextOf r a) read (range .hpd) (firstLeft pageBits (range .tsz)) noTables (range .root .0))
+        (heeded (range .hpd) (descend (contextOf r a) read (suc (firstLeft pageBits (range .tsz))) noTables (range .root .0))) (read-once (contextOf r a) read (range .hpd) (firstLeft pageBits (range .tsz)) noTables (range .root .0))
 
 -- ---- a leaf that is reached
 
@@ -197,9 +197,9 @@ unfolding contextOf
 context-paged r a = paged
 
 -- what holds of a leaf under tables holds of it under none
-counted-good : (c : Context) (read : ℕ → Word) (hpd : Bool) (e : End) → Good c read e → Good c read (countedEnd hpd e)
-counted-good c read hpd (fault kind level) g = tt
-counted-good c read hpd (leaf a l) g = record {
+heeded-good : (c : Context) (read : ℕ → Word) (hpd : Bool) (e : End) → Good c read e → Good c read (heededEnd hpd e)
+heeded-good c read hpd (fault kind level) g = tt
+heeded-good c read hpd (leaf a l) g = record {
   value = g .value;
   leads = g .leads;
   low = g .low;
@@ -207,33 +207,33 @@ counted-good c read hpd (leaf a l) g = record {
   aligned = g .aligned;
 }
 
-counted-backed : (pool : List ℕ) (base : ℕ) (hpd : Bool) (e : End) → Backed pool base e → Backed pool base (countedEnd hpd e)
-counted-backed pool base hpd (fault kind level) g = g
-counted-backed pool base hpd (leaf a l) g = (g .0, pick-both (λ (s : ℕ). s < 16) hpd 0 (l .tables) (lit< tt) (g .1), g .2)
+heeded-backed : (pool : List ℕ) (base : ℕ) (hpd : Bool) (e : End) → Backed pool base e → Backed pool base (heededEnd hpd e)
+heeded-backed pool base hpd (fault kind level) g = g
+heeded-backed pool base hpd (leaf a l) g = (g .0, pick-both (λ (s : ℕ). s < 16) hpd 0 (l .tables) (lit< tt) (g .1), g .2)
 
 pub locate-good : (r : Regime) (read : ℕ → Word) (a : ℕ) → Sized r → rangeOf r a .root .0 % 8 ≡ 0 → Good (contextOf r a) read (locate r read a .end)
 unfolding locate
 locate-good r read a z e =
     let range = rangeOf r a in
     let c = contextOf r a in
-    let deep = counted (range .hpd) (descend c read (suc (firstLeft pageBits (range .tsz))) noTables (range .root .0)) in
+    let deep = heeded (range .hpd) (descend c read (suc (firstLeft pageBits (range .tsz))) noTables (range .root .0)) in
     let good : Trace → Type 0 = λ t. Good c read (t .end) in
     let beyond = leb (outputLimit (r .output)) (range .root .0) in
     pick-both good (range .disabled || outside (range .tsz) a) (ended (fault Translation 0)) (pick beyond (ended (fault AddressSize 0)) deep) tt
     (pick-both good beyond (ended (fault AddressSize 0)) deep tt
-    (counted-good c read (range .hpd) (descend c read (suc (firstLeft pageBits (range .tsz))) noTables (range .root .0) .end)
+    (heeded-good c read (range .hpd) (descend c read (suc (firstLeft pageBits (range .tsz))) noTables (range .root .0) .end)
     (descend-good c read (context-paged r a) (suc (firstLeft pageBits (range .tsz))) noTables (range .root .0) (suc-le-suc (first-le pageBits (range .tsz) paged (range-least r a z))) (lit< tt) e)))
 
 pub locate-backed : (r : Regime) (pool : List ℕ) (base a : ℕ) → Sized r → Backed pool base (locate r (fetched pool base) a .end)
 unfolding locate
 locate-backed r pool base a z =
     let range = rangeOf r a in
-    let deep = counted (range .hpd) (descend (contextOf r a) (fetched pool base) (suc (firstLeft pageBits (range .tsz))) noTables (range .root .0)) in
+    let deep = heeded (range .hpd) (descend (contextOf r a) (fetched pool base) (suc (firstLeft pageBits (range .tsz))) noTables (range .root .0)) in
     let backed : Trace → Type 0 = λ t. Backed pool base (t .end) in
     let beyond = leb (outputLimit (r .output)) (range .root .0) in
     pick-both backed (range .disabled || outside (range .tsz) a) (ended (fault Translation 0)) (pick beyond (ended (fault AddressSize 0)) deep) (lit≤ tt)
     (pick-both backed beyond (ended (fault AddressSize 0)) deep (lit≤ tt)
-    (counted-backed pool base (range .hpd) (descend (contextOf r a) (fetched pool base) (suc (firstLeft pageBits (range .tsz))) noTables (range .root .0) .end)
+    (heeded-backed pool base (range .hpd) (descend (contextOf r a) (fetched pool base) (suc (firstLeft pageBits (range .tsz))) noTables (range .root .0) .end)
     (descend-backed (contextOf r a) pool base (suc (firstLeft pageBits (range .tsz))) noTables (range .root .0) (suc-le-suc (first-le pageBits (range .tsz) paged (range-least r a z))) (lit< tt))))
 
 -- ---- the reader over a pool

@@ -1,4 +1,4 @@
--- The sum that a leaf stands under is that of the tables visited on the way.
+-- The sum that a leaf stands under, from the list of visited addresses alone.
 use Prim.Native.Nat.{ℕ, zero, suc, _<_, suc-le-suc}
 use mathlib.Core.Bool.{Bool, true, false, _||_}
 use mathlib.Core.List.{List, [], _∷_}
@@ -9,8 +9,9 @@ use lib.Dec.{leb}
 use lib.ListN.{length, getD}
 use Rattle.descriptor.specs.Bits.{pick}
 use Rattle.vmsa.specs.Limits.{pageBits}
-use Rattle.vmsa.specs.Fields.{tableBits, withTable}
+use Rattle.vmsa.specs.Fields.{tableBits, noTables, withTable}
 use Rattle.geometry.specs.Geometry.{levelOf, firstLeft, outputLimit}
+use Rattle.vmsa.proofs.Tables.{sum-below}
 use Rattle.vmsa.specs.declared.Regime.{Regime}
 use Rattle.vmsa.specs.declared.Leaf.{Leaf}
 use Rattle.vmsa.specs.declared.FaultKind.the-variants.{ExternalAbort, Translation, AddressSize}
@@ -19,9 +20,19 @@ use Rattle.lookup.specs.declared.Word.the-variants.{Value, Unreachable}
 use Rattle.lookup.specs.declared.Next.{Next}
 use Rattle.lookup.specs.declared.Next.the-variants as next
 use Rattle.lookup.specs.declared.Context.{Context}
-use Rattle.lookup.specs.Trace.{End, fault, leaf, Trace, ended, visit, countedEnd, counted}
-use Rattle.lookup.specs.Sum.{withWord, sumAlong}
-use Rattle.lookup.specs.Steps.{decoded, onward, onWord, followed, entryAt, entered, descend, rangeOf, outside, contextOf, noTables, locate}
+use Rattle.lookup.specs.Trace.{End, fault, leaf, Trace, ended, heededEnd, heeded}
+use Rattle.lookup.specs.Steps.{decoded, onward, onWord, followed, entryAt, entered, descend, rangeOf, outside, contextOf, locate}
+
+-- a table's bits join the sum
+abbrev pub withWord : ℕ → Word → ℕ
+withWord sum (Value v) = withTable sum v
+withWord sum Unreachable = sum
+
+-- the sum of the tables among the descriptors visited: of all but the last, which is the leaf
+abbrev pub sumAlong : (ℕ → Word) → ℕ → List ℕ → ℕ
+sumAlong read sum [] = sum
+sumAlong read sum (last ∷ []) = sum
+sumAlong read sum (table ∷ next ∷ rest) = sumAlong read (withWord sum (read table)) (next ∷ rest)
 
 module _ (read : ℕ → Word) where
   -- a leaf stands under the sum of the addresses visited, from sum on; where the tables count
@@ -58,18 +69,18 @@ module _ (read : ℕ → Word) where
         by h Unreachable q = tt
 
   -- from the root on
-  counted-sum : (hpd : Bool) (visited : List ℕ) (e : End) → SumIs false noTables visited e → SumIs hpd noTables visited (countedEnd hpd e)
+  heeded-sum : (hpd : Bool) (visited : List ℕ) (e : End) → SumIs false noTables visited e → SumIs hpd noTables visited (heededEnd hpd e)
   unfolding SumIs
-  counted-sum hpd visited (fault kind level) h = tt
-  counted-sum hpd visited (leaf a l) h = ap (pick hpd 0) h
+  heeded-sum hpd visited (fault kind level) h = tt
+  heeded-sum hpd visited (leaf a l) h = ap (pick hpd 0) h
 
   locate-sums : (r : Regime) (a : ℕ) → SumIs (rangeOf r a .hpd) noTables (locate r read a .visited) (locate r read a .end)
   unfolding locate SumIs
   locate-sums r a =
       let range = rangeOf r a in
       let t = descend (contextOf r a) read (suc (firstLeft pageBits (range .tsz))) noTables (range .root .0) in
-      by (range .disabled || outside (range .tsz) a) (leb (outputLimit (r .output)) (range .root .0)) (counted (range .hpd) t)
-      (counted-sum (range .hpd) (t .visited) (t .end) (descend-sum (contextOf r a) (suc (firstLeft pageBits (range .tsz))) noTables (range .root .0)))
+      by (range .disabled || outside (range .tsz) a) (leb (outputLimit (r .output)) (range .root .0)) (heeded (range .hpd) t)
+      (heeded-sum (range .hpd) (t .visited) (t .end) (descend-sum (contextOf r a) (suc (firstLeft pageBits (range .tsz))) noTables (range .root .0)))
     where
       by : (off beyond : Bool) (t : Trace) → SumIs (rangeOf r a .hpd) noTables (t .visited) (t .end)
           → SumIs (rangeOf r a .hpd) noTables (pick off (ended (fault Translation 0)) (pick beyond (ended (fault AddressSize 0)) t) .visited)
@@ -81,6 +92,16 @@ module _ (read : ℕ → Word) where
   pub locate-sum : (r : Regime) (a at : ℕ) (l : Leaf) → locate r read a .end ≡ leaf at l → l .tables ≡ pick (rangeOf r a .hpd) 0 (sumAlong read noTables (locate r read a .visited))
   unfolding SumIs
   locate-sum r a at l q = subst (SumIs (rangeOf r a .hpd) noTables (locate r read a .visited)) q (locate-sums r a)
+
+  -- the sum has four bits
+  below-word : (sum : ℕ) (w : Word) → sum < 16 → withWord sum w < 16
+  below-word sum (Value v) h = sum-below sum v h
+  below-word sum Unreachable h = h
+
+  pub below-sum : (visited : List ℕ) (sum : ℕ) → sum < 16 → sumAlong read sum visited < 16
+  below-sum [] sum h = h
+  below-sum (last ∷ []) sum h = h
+  below-sum (table ∷ next ∷ rest) sum h = below-sum (next ∷ rest) (withWord sum (read table)) (below-word sum (read table) h)
 
   -- tables whose bits are clear add nothing
   clear-word : (sum : ℕ) (w : Word) → ((v : ℕ) → w ≡ Value v → tableBits v ≡ 0) → withWord sum w ≡ sum

@@ -1,4 +1,3 @@
 pub mod Trace
 pub mod Steps
 pub mod Packing
-pub mod Sum

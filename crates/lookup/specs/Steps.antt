@@ -7,7 +7,7 @@ use lib.ListN.{length}
 use Rattle.descriptor.specs.Bytes.{desc}
 use Rattle.descriptor.specs.Bits.{pick, bit}
 use Rattle.vmsa.specs.Limits.{addressLimit, pageBits}
-use Rattle.vmsa.specs.Fields.{withTable}
+use Rattle.vmsa.specs.Fields.{noTables, withTable}
 use Rattle.geometry.specs.Geometry.{levelOf, pageSize, span, strideBits, blockAt, firstLeft, cut, outputLimit}
 use Rattle.vmsa.specs.declared.Regime.{Regime}
 use Rattle.vmsa.specs.declared.Range.{Range}
@@ -19,7 +19,7 @@ use Rattle.lookup.specs.declared.Word.the-variants.{Value, Unreachable}
 use Rattle.lookup.specs.declared.Next.{Next}
 use Rattle.lookup.specs.declared.Next.the-variants as next
 use Rattle.lookup.specs.declared.Context.{Context}
-use Rattle.lookup.specs.Trace.{fault, leaf, Trace, ended, visit, counted}
+use Rattle.lookup.specs.Trace.{fault, leaf, Trace, ended, visit, heeded}
 
 -- ---- steps 4 and 5: what a descriptor says at a level, for page bits p
 
@@ -97,15 +97,11 @@ outside t a = not (eqb (a / 2 ^ (64 - t)) (pick (upper a) (2 ^ t - 1) 0))
 unfoldable pub contextOf : Regime → ℕ → Context
 contextOf r a = record { base = r .pool .address; limit = record { 0 = outputLimit (r .output) }; input = record { 0 = a % 2 ^ (64 - rangeOf r a .tsz) }; page = pageBits }
 
--- no table yet
-abbrev pub noTables : ℕ
-noTables = 0
-
 unfoldable pub locate : Regime → (ℕ → Word) → ℕ → Trace
 locate r read a =
     pick (rangeOf r a .disabled || outside (rangeOf r a .tsz) a) (ended (fault Translation 0))
     (pick (leb (outputLimit (r .output)) (rangeOf r a .root .0)) (ended (fault AddressSize 0))
-    (counted (rangeOf r a .hpd) (descend (contextOf r a) read (suc (firstLeft pageBits (rangeOf r a .tsz))) noTables (rangeOf r a .root .0))))
+    (heeded (rangeOf r a .hpd) (descend (contextOf r a) read (suc (firstLeft pageBits (rangeOf r a .tsz))) noTables (rangeOf r a .root .0))))
 
 -- what a walk can rely on where a table follows
 abbrev pub Sound : ℕ → Next → Type 0

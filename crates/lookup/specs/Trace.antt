@@ -4,6 +4,7 @@ use mathlib.Core.Bool.{Bool}
 use mathlib.Core.List.{List, [], _∷_}
 use lib.ListN.{length}
 use Rattle.descriptor.specs.Bits.{pick}
+use Rattle.vmsa.specs.Fields.{noTables}
 use Rattle.geometry.specs.Geometry.{levelOf}
 use Rattle.vmsa.specs.declared.FaultKind.{FaultKind}
 use Rattle.vmsa.specs.declared.Leaf.{Leaf}
@@ -29,19 +30,19 @@ abbrev pub visit : ℕ → Trace → Trace
 visit a t = record { visited = a ∷ t .visited; end = t .end }
 
 -- where HPD is on, the tables on the way do not count (RULES 6.11): the leaf's sum is empty
-abbrev pub countedLeaf : Bool → Leaf → Leaf
-countedLeaf hpd l = record { value = l .value; left = l .left; tables = pick hpd 0 (l .tables) }
+abbrev pub heededLeaf : Bool → Leaf → Leaf
+heededLeaf hpd l = record { value = l .value; left = l .left; tables = pick hpd noTables (l .tables) }
 
-abbrev pub countedEnd : Bool → End → End
-countedEnd hpd (fault kind level) = fault kind level
-countedEnd hpd (leaf a l) = leaf a (countedLeaf hpd l)
+abbrev pub heededEnd : Bool → End → End
+heededEnd hpd (fault kind level) = fault kind level
+heededEnd hpd (leaf a l) = leaf a (heededLeaf hpd l)
 
-abbrev pub counted : Bool → Trace → Trace
-counted hpd t = record { visited = t .visited; end = countedEnd hpd (t .end) }
+abbrev pub heeded : Bool → Trace → Trace
+heeded hpd t = record { visited = t .visited; end = heededEnd hpd (t .end) }
 
 -- a trace as the code hands it back, k reads having gone before
 abbrev pub shownEnd : ℕ → End → Located
-shownEnd n (fault kind level) = record { ending = ending.Fault kind; level = level; reads = n; address = record { 0 = 0 }; leaf = record { value = 0; left = 0; tables = 0 } }
+shownEnd n (fault kind level) = record { ending = ending.Fault kind; level = level; reads = n; address = record { 0 = 0 }; leaf = record { value = 0; left = 0; tables = noTables } }
 shownEnd n (leaf a l) = record { ending = ending.Leaf; level = levelOf (l .left); reads = n; address = record { 0 = a }; leaf = l }
 
 unfoldable pub shown : ℕ → Trace → Located

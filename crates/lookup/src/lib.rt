@@ -4,7 +4,7 @@ ghost use Prim.Native.Nat.{suc, _+_, _*_, _≤_, _<_, _^_};
 ghost use Rattle.vmsa.specs.Limits.{addressLimit, tszLeast, tszMost, Sized};
 ghost use Rattle.vmsa.specs.Fields.{tableBits};
 ghost use Rattle.geometry.specs.Geometry.{levelOf, Paged};
-ghost use Rattle.lookup.specs.Trace.{fault, ended, counted, shown};
+ghost use Rattle.lookup.specs.Trace.{fault, ended, heeded, shown};
 ghost use Rattle.lookup.specs.Steps.{invalid as invalidAt, isTable, addressIn, decoded, Sound, fetched, context, entryAt, followed, descend, upper as upperAt, rangeOf, outside as outsideAt, locate as locateAt};
 ghost use Rattle.lookup.specs.Packing.{kindNumber, kindNumbered, joined, packed, Packs};
 use vmsa::FaultKind;
@@ -183,10 +183,10 @@ pub fn entry_at(c: Context, left: u8, table: PhysAddr) -> PhysAddr
 fn table_bits(v: u64) -> u64
     ensures { λ r. ⌜ (r ≡ tableBits v) × (r < 16) ⌝ }
 {
-    descriptor::field(v, vmsa::TABLE_BITS, vmsa::TABLE_WIDTH)
+    descriptor::field(v, vmsa::TABLE_START, vmsa::TABLE_WIDTH)
 }
 
-// Reads the entry of a table, and follows it. tables has in bits 62 to 59 the sum of those on the way.
+// Reads the entry of a table, and follows it. tables is the descriptors of those on the way, or-ed: its bits 62 to 59 are their sum, the others have no say.
 fn enter(
     pool: &[u8],
     base: PhysAddr,
@@ -238,7 +238,7 @@ fn follow(
 // A packed lookup over the pool, taken apart: a read for each level from the first on, the leaf read again, and the tables' sum where HPD is off.
 fn unpack(pool: &[u8], base: PhysAddr, hpd: bool, first: u8, n: u64) -> Located
     requires { ⌜ Packs (now pool) (base .0) first n ⌝ }
-    ensures { λ r. ⌜ ((p : Packs (now (pool .entry)) (base .0) first n) → r ≡ shown 0 (counted hpd (p .trace))) ⌝ }
+    ensures { λ r. ⌜ ((p : Packs (now (pool .entry)) (base .0) first n) → r ≡ shown 0 (heeded hpd (p .trace))) ⌝ }
 {
     let level = (n % LEVELS) as u8;
     let reads = level + 1 - first;

@@ -38,6 +38,7 @@ pub fn clean(r: Regime, l: Leaf) -> bool
     descriptor::bit(l.value, vmsa::AP2) & writable(r, l)
 }
 
+// AP[1], UXN and PXN as they count under the tables above.
 fn user(l: Leaf) -> bool
     ensures { λ b. ⌜ b ≡ userOf l ⌝ }
 {
@@ -62,7 +63,7 @@ fn may_read(el0: bool, l: Leaf) -> bool
     !el0 | user(l)
 }
 
-// w is W. The leaf's W is worked out once, and the whole regime is not handed on: the session's hit path stays one function of machine code.
+// w is W, worked out once; the regime is not handed on. Both keep a hit short (DECISIONS 68).
 fn may_fetch(wxn: bool, el0: bool, w: bool, l: Leaf) -> bool
     ensures { λ b. ⌜ b ≡ mayFetchWith wxn el0 w l ⌝ }
 {

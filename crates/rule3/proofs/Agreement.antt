@@ -30,13 +30,13 @@ use Rattle.tlb.specs.Ours.{judged, accessedIn, stamped}
 
 -- ---- what a leaf answers, by the three tests
 
-abbrev faultOf : Leaf → FaultKind → Result
+abbrev pub faultOf : Leaf → FaultKind → Result
 faultOf l kind = failing l 0 kind .result
 
-abbrev successOf : Regime → Access → Leaf → Result
+abbrev pub successOf : Regime → Access → Leaf → Result
 successOf r a l = passing r a l 0 .result
 
-abbrev resultBy : Regime → Access → Leaf → Bool → Bool → Bool → Result
+abbrev pub resultBy : Regime → Access → Leaf → Bool → Bool → Bool → Result
 resultBy r a l x y z = pick x (faultOf l AccessFlag) (pick y (faultOf l Alignment) (pick z (faultOf l Permission) (successOf r a l)))
 
 result-picks : (x y z : Bool) (f g h p : Decision) → pick x f (pick y g (pick z h p)) .result ≡ pick x (f .result) (pick y (g .result) (pick z (h .result) (p .result)))
@@ -45,7 +45,7 @@ result-picks false true z f g h p = refl
 result-picks false false true f g h p = refl
 result-picks false false false f g h p = refl
 
-judged-by : (r : Regime) (a : Access) (l : Leaf) → judged r l a ≡ resultBy r a l (flagFails r l) (alignmentFails r a l) (permissionFails r a l)
+pub judged-by : (r : Regime) (a : Access) (l : Leaf) → judged r l a ≡ resultBy r a l (flagFails r l) (alignmentFails r a l) (permissionFails r a l)
 unfolding judged decision
 judged-by r a l =
     result-picks (flagFails r l) (alignmentFails r a l) (permissionFails r a l) (failing l 0 AccessFlag) (failing l 0 Alignment) (failing l 0 Permission) (passing r a l 0)

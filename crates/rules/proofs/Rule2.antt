@@ -15,7 +15,8 @@ use Rattle.descriptor.proofs.Laws.{desc-put}
 use Rattle.vmsa.specs.Limits.{pageBits}
 use Rattle.geometry.specs.Geometry.{levelOf, outputBits, outputLimit}
 use Rattle.vmsa.specs.Kinds.{asksWrite, writes}
-use Rattle.vmsa.specs.Fields.{af, ap2, noWriteBelow}
+use Rattle.vmsa.specs.Fields.{af, ap2, noWriteBelow, noUserBelow, uxnBelow, pxnBelow}
+use Rattle.vmsa.proofs.Tables.{with-write, with-user, with-uxn, with-pxn}
 use Rattle.vmsa.specs.Answers.{Faulted, success, fault as faulted, codeOf}
 use Rattle.vmsa.specs.declared.Regime.{Regime}
 use Rattle.vmsa.specs.declared.Access.{Access}
@@ -33,15 +34,15 @@ use Rattle.decision.specs.Decision.{flagDue, dirtyDue, updated, cacheable, outp
 use Rattle.walk.specs.Walk.{walk, traced, poolBytes}
 use Rattle.walk.proofs.Ends.{ready}
 use Rattle.rules.specs.Steps.{AllPass, FirstFails, leafSteps}
-use Rattle.rules.specs.Tables.{traceOf}
-use Rattle.rules.specs.Rule2.{stepsOf, LeafOf, offset, valueAfter, leafAfter, Placed, Right, FlagUpdate, DirtyUpdate, Marked, Rule2}
+use Rattle.rules.specs.Tables.{traceOf, InSum}
+use Rattle.rules.specs.Rule2.{stepsOf, LeafOf, offset, valueAfter, leafAfter, SumOf, Placed, Right, FlagUpdate, DirtyUpdate, Marked, Rule2}
 use Rattle.walk.proofs.Parts.{getD-put}
 use Rattle.descriptor.proofs.Numbers.{desc-small}
 use Rattle.geometry.proofs.Geometry.{least-output}
 use Rattle.rules.proofs.StepLaws.{Fault, firstFault, passes-none, fails-some, none-passes, some-fails}
 use Rattle.rules.proofs.Outcomes.{endCacheable}
 use Rattle.rules.proofs.Updates.{updated-none, updated-other, updated-af, updated-ap2, updated-small, writes-asks, flag-due, dirty-due, probe-due, leaf-clear, flag-after, write-writable, dirty-after, none-dirty, none-asks, still-writable, leaf-kind}
-use Rattle.rules.proofs.Tables.{leaf-sum, bare-walk}
+use Rattle.rules.proofs.Tables.{sum-four, sum-bit, bare-walk}
 use Rattle.rules.proofs.Walks.{readsOf, leafIn, told, updatedLeaf, passed-leaf, leaf-first, passed-result, failed-result, failed-bytes, success-taken, fault-taken, success-none, success-leaf, faultOf, fault-some, leaf-found, leaf-placed, success-told, success-bytes}
 
 module _ (r : Regime) (a : Access) (m : List ℕ) where
@@ -101,7 +102,27 @@ module _ (r : Regime) (a : Access) (m : List ℕ) where
 
   -- ---- a success
 
+  -- what a leaf's sum says
+  leaf-sums : (l : LeafOf r a m) → SumOf l
+  leaf-sums l =
+      let bit-of = sum-bit r a m (l .address) (leafIn l) (l .reached) in
+      record {
+        noWrite = bit-of noWriteBelow 62 with-write refl;
+        noUser = bit-of noUserBelow 61 with-user refl;
+        uxn = bit-of uxnBelow 60 with-uxn refl;
+        pxn = bit-of pxnBelow 59 with-pxn refl;
+        four = sum-four r a m (l .address) (leafIn l) (l .reached);
+      }
+
   module _ (s : Success) (e : walk r a m .result ≡ success s) where
+    -- with bit 62 in the sum
+    is-read-only : InSum 62 r a m → (asksWrite (a .kind) ≡ false) × (s .dirtied ≡ false)
+    is-read-only i =
+        let l = success-leaf r a m s e in
+        let h = leaf-sums l .noWrite .1 i in
+        let c = leaf-clear r a (leafIn l) (leaf-first r a m l ∙ success-none r a m s e) in
+        (none-asks r a (leafIn l) h (c .2), ap (λ (x : Success). x .dirtied) (success-told r a m s e l) ∙ none-dirty r a (leafIn l) h)
+
     success-counts : (s .reads ≡ readsOf r a m) × (s .reads ≤ 4)
     success-counts =
         let l = success-leaf r a m s e in
@@ -127,12 +148,6 @@ module _ (r : Regime) (a : Access) (m : List ℕ) where
           let f = leaf-found r a m (success-taken r a m s e) l in
           rw (is-right .output) (output-below pageBits (outputBits (r .output)) (l .left) (l .value) (a .address .0) (lit≤ tt) (least-output (r .output))
           (is-leaf pageBits (2 ^ outputBits (r .output)) (l .left) (l .value) (f .reached .leads)))
-
-      -- under a table with bit 62
-      is-read-only : noWriteBelow (l .tables) ≡ true → (asksWrite (a .kind) ≡ false) × (s .dirtied ≡ false)
-      is-read-only h =
-          let c = leaf-clear r a (leafIn l) (leaf-first r a m l ∙ success-none r a m s e) in
-          (none-asks r a (leafIn l) h (c .2), ap (λ (x : Success). x .dirtied) (success-told r a m s e l) ∙ none-dirty r a (leafIn l) h)
 
       fits : offset l + 8 ≤ length m
       fits =
@@ -213,9 +228,9 @@ rule2 = record {
   right = is-right;
   marked = λ r a m s e h l. is-marked r a m s e l h;
   written = λ r a m s e h w l. is-written r a m s e l h w;
-  sum = λ r a m l. leaf-sum r a m (l .address) (leafIn l) (l .reached);
+  sum = leaf-sums;
   bare = bare-walk;
-  readOnly = λ r a m s e l h. (is-read-only r a m s e l h);
+  readOnly = is-read-only;
   below = λ r a m s e. output-small r a m s e (success-leaf r a m s e);
   successReads = success-counts;
   faultReads = fault-counts;

@@ -6,12 +6,12 @@ use mathlib.Core.Logic.{_⊎_, _↔_, _≢_}
 use mathlib.Core.Path.{_≡_}
 use lib.ListN.{length, getD}
 use Rattle.descriptor.specs.Bytes.{Bytes, desc}
-use Rattle.descriptor.specs.Bits.{pick, bit}
+use Rattle.descriptor.specs.Bits.{bit}
 use Rattle.vmsa.specs.Limits.{pageBits}
 use Rattle.geometry.specs.Geometry.{levelOf, span, cut, outputLimit}
 use Rattle.vmsa.specs.Kinds.{isProbe, asksWrite, writes}
 use Rattle.vmsa.specs.Attributes.{attribute as attributeByte}
-use Rattle.vmsa.specs.Fields.{attributeIndex, shareability as shareabilityOf, nonglobal as nonglobalOf, af, ap2, dbm, noWriteBelow}
+use Rattle.vmsa.specs.Fields.{attributeIndex, shareability as shareabilityOf, nonglobal as nonglobalOf, af, ap2, dbm, noWriteBelow, noUserBelow, uxnBelow, pxnBelow}
 use Rattle.vmsa.specs.Answers.{Faulted, success, fault as faulted, codeOf}
 use Rattle.vmsa.specs.declared.Regime.{Regime}
 use Rattle.vmsa.specs.declared.Access.{Access}
@@ -22,12 +22,10 @@ use Rattle.vmsa.specs.declared.FaultKind.the-variants.{Permission, Alignment}
 use Rattle.checks.specs.declared.Checked.the-variants.{Accepted}
 use Rattle.checks.specs.Order.{walkCheck}
 use Rattle.lookup.specs.Trace.{leaf}
-use Rattle.lookup.specs.Sum.{sumAlong}
-use Rattle.lookup.specs.Steps.{rangeOf, noTables}
 use Rattle.permission.specs.Permission.{writable}
 use Rattle.walk.specs.Walk.{walk, poolBytes}
 use Rattle.rules.specs.Steps.{Step, AllPass, FirstFails, walkSteps}
-use Rattle.rules.specs.Tables.{traceOf, readerOf, TablesOff, TablesClear, bareWalk}
+use Rattle.rules.specs.Tables.{traceOf, TablesOff, TablesClear, InSum, bareWalk}
 
 -- the steps of an access
 abbrev pub stepsOf : Regime → Access → List ℕ → List Step
@@ -52,6 +50,14 @@ valueAfter {r} {a} {m} l = desc (walk r a m .bytes) (offset l)
 -- the leaf as the walk left it
 abbrev pub leafAfter : {r : Regime} {a : Access} {m : List ℕ} → LeafOf r a m → Leaf
 leafAfter l = record { value = valueAfter l; left = l .left; tables = l .tables }
+
+-- what a leaf's sum says (RULES 6.11): each of its four tests holds exactly where a table on the way has the bit, and HPD is off; it has no other bit
+pub record SumOf {r : Regime} {a : Access} {m : List ℕ} (l : LeafOf r a m) : Type 0 where
+  pub noWrite : (noWriteBelow (l .tables) ≡ true) ↔ InSum 62 r a m
+  pub noUser : (noUserBelow (l .tables) ≡ true) ↔ InSum 61 r a m
+  pub uxn : (uxnBelow (l .tables) ≡ true) ↔ InSum 60 r a m
+  pub pxn : (pxnBelow (l .tables) ≡ true) ↔ InSum 59 r a m
+  pub four : l .tables < 16
 
 -- the leaf's descriptor lies wholly in the pool, at a multiple of 8, and is what the walk read
 pub record Placed {r : Regime} {a : Access} {m : List ℕ} (l : LeafOf r a m) : Type 0 where
@@ -113,14 +119,12 @@ pub record Rule2 : Type 0 where
   -- a written page ends writable, by W and by its AP[2], with its Access flag set
   pub written : (r : Regime) (a : Access) (m : List ℕ) (s : Success) → walk r a m .result ≡ success s → Bytes m → writes (a .kind) ≡ true
       → (l : LeafOf r a m) → (af (valueAfter l) ≡ true) × (ap2 (valueAfter l) ≡ false) × (writable r (leafAfter l) ≡ true)
-  -- a leaf stands under the sum of the tables visited on the way; where HPD is on, under none (RULES 6.11)
-  pub sum : (r : Regime) (a : Access) (m : List ℕ) (l : LeafOf r a m)
-      → l .tables ≡ pick (rangeOf r (a .address .0) .hpd) 0 (sumAlong (readerOf r m) noTables (traceOf r a m .visited))
+  -- the bits of all tables on the way add up, unless HPD is on
+  pub sum : (r : Regime) (a : Access) (m : List ℕ) (l : LeafOf r a m) → SumOf l
   -- where HPD is on, or no table on the way has one of these bits, answer and bytes are those of the rules in which they have no say
   pub bare : (r : Regime) (a : Access) (m : List ℕ) → TablesOff r a ⊎ TablesClear r a m → walk r a m ≡ bareWalk r a m
-  -- a success under a table with bit 62 asked for no write, and made nothing dirty
-  pub readOnly : (r : Regime) (a : Access) (m : List ℕ) (s : Success) → walk r a m .result ≡ success s → (l : LeafOf r a m) → noWriteBelow (l .tables) ≡ true
-      → (asksWrite (a .kind) ≡ false) × (s .dirtied ≡ false)
+  -- with bit 62 in the tables' sum, a success asked for no write, and made nothing dirty
+  pub readOnly : (r : Regime) (a : Access) (m : List ℕ) (s : Success) → walk r a m .result ≡ success s → InSum 62 r a m → (asksWrite (a .kind) ≡ false) × (s .dirtied ≡ false)
   -- every output address is below 2 to the output size (RULES 9.4)
   pub below : (r : Regime) (a : Access) (m : List ℕ) (s : Success) → walk r a m .result ≡ success s → s .output .0 < outputLimit (r .output)
   -- the count of reads is the length of the list of descriptor addresses visited, and at most 4 (RULES 9.3): for a success,

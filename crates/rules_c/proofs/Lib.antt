@@ -3,4 +3,5 @@ pub mod Chains
 pub mod Walks
 pub mod Accesses
 pub mod Tied
+pub mod Sums
 pub mod Spare

@@ -3,6 +3,7 @@ use Prim.Native.Nat.{ℕ, zero, suc}
 use mathlib.Core.List.{List, [], _∷_, map}
 use mathlib.Core.Option.{Option, none, some}
 use mathlib.Core.Path.{_≡_, refl, sym, ap, ap₂, subst, _∙_}
+use native.Mathlib.Nat.{mod-eq-of-lt}
 use lib.ListN.{length, getD, set as setAt, replicate}
 use Rattle.descriptor.specs.Bits.{pick}
 use Rattle.descriptor.proofs.Lists.{map-set}
@@ -18,12 +19,13 @@ use Rattle.checks.specs.declared.Checked.the-variants.{Accepted, Refused}
 use Rattle.checks.specs.Order.{regimeCheck}
 use Rattle.walk.specs.Walk.{walk}
 use Rattle.tlb.specs.declared.Entry.{Entry as EntryStruct}
-use Rattle.tlb.specs.Replies.{Reply, done, refused, answered, Told}
-use Rattle.tlb.specs.Walker.{Entry, entryCount, accessIn}
+use Rattle.tlb.specs.Replies.{Reply, done, refused, answered, Told, told}
+use Rattle.tlb.specs.Walker.{entryCount, Walked, andThen, accessIn}
 use Rattle.tlb.specs.Ours.{ours}
 use Rattle.tlb.specs.Entries.{entryView, noEntry, regimeIn, pageFor, entryFor, keptEntry, accessedEntry}
 use Rattle.session.specs.declared.Session.{Session as SessionStruct}
-use Rattle.session.specs.Model.{Session, Handed, handed, Call, setRegime, access, store, dropAll, call}
+use Rattle.tlb.proofs.Access.{Low, low-in}
+use Rattle.session.specs.Model.{Session, Handed, handed, Stepped, Call, setRegime, access, store, dropAll, setBy, storeIn, call}
 use Rattle.session.specs.View.{sessionView, emptyEntries, emptySession, setTo, setAfter, entryIn, withEntries, sessionAfter, leaves}
 use Rattle.words.specs.declared.AccessWords.{AccessWords}
 use Rattle.words.specs.declared.AnswerWords.{AnswerWords}
@@ -33,7 +35,9 @@ use Rattle.capi_session.specs.Says.{EmptySays, SetSays, AccessSays}
 use Rattle.calls.specs.Chains.{Event, Chain, none-yet, more}
 use Rattle.rules_c.specs.Code.{MadeC}
 use Rattle.rules_c.specs.Spare.{regimeSpare0, accessSpare0, entrySpare0, sessionSpare0, SpareOfC}
+use Rattle.session.proofs.Calls.{access-is}
 use Rattle.rules_c.proofs.Chains.{made-is}
+use Rattle.rules_c.proofs.Sums.{access-spare}
 
 -- ---- what is read of a struct
 
@@ -44,22 +48,15 @@ regime-spare g = refl
 regimes-alike : (g h : RegimeWords) → regimeSpare0 g ≡ regimeSpare0 h → regimeOf g ≡ regimeOf h
 regimes-alike g h e = sym (regime-spare g) ∙ ap regimeOf e ∙ regime-spare h
 
-access-spare : (a : AccessWords) → accessOf (accessSpare0 a) ≡ accessOf a
+words-of : (a : AccessWords) → accessOf (accessSpare0 a) ≡ accessOf a
 unfolding accessOf
-access-spare a = refl
+words-of a = refl
 
 accesses-alike : (a b : AccessWords) → accessSpare0 a ≡ accessSpare0 b → accessOf a ≡ accessOf b
-accesses-alike a b e = sym (access-spare a) ∙ ap accessOf e ∙ access-spare b
-
-entries-spare : (es : List EntryStruct) → map entryView (map entrySpare0 es) ≡ map entryView es
-entries-spare [] = refl
-entries-spare (e ∷ es) = ap (λ (t : List Entry). entryView e ∷ t) (entries-spare es)
+accesses-alike a b e = sym (words-of a) ∙ ap accessOf e ∙ words-of b
 
 regime-in : (g : RegimeWords) (n : ℕ) → regimeIn (regimeSpare0 g) n ≡ regimeIn g n
 regime-in g n = ap (λ (r : Regime). pick (flag n) (some r) none) (regime-spare g)
-
-session-spare : (s : SessionStruct) → sessionView (sessionSpare0 s) ≡ sessionView s
-session-spare s i = record { regime = regime-in (s .regime) (s .set) i; entries = entries-spare (s .entries) i }
 
 -- ---- what a call leaves of a session
 
@@ -72,14 +69,19 @@ entry-at [] i = refl
 entry-at (e ∷ es) zero = refl
 entry-at (e ∷ es) (suc i) = entry-at es i
 
-kept : (e : EntryStruct) (page : ℕ) (o : Option Leaf) → keptEntry (entrySpare0 e) page o ≡ entrySpare0 (keptEntry e page o)
-kept e page none = refl
-kept e page (some leaf) = refl
+kept : (e : EntryStruct) (page : ℕ) (o : Option Leaf) → Low o → keptEntry (entrySpare0 e) page o ≡ entrySpare0 (keptEntry e page o)
+kept e page none h = refl
+kept e page (some leaf) h = rw (mod-eq-of-lt (h .1))
+
+-- what an access gives by its page's entry
+given-spare : (g : RegimeWords) (n : ℕ) (e : EntryStruct) (m : List ℕ) (a : Access)
+    → accessIn ours (regimeIn (regimeSpare0 g) n) m a (entryView (entrySpare0 e)) ≡ accessIn ours (regimeIn g n) m a (entryView e)
+given-spare g n e m a = access-spare (regimeIn (regimeSpare0 g) n) m a e ∙ ap (λ (r : Option Regime). accessIn ours r m a (entryView e)) (regime-in g n)
 
 accessed-entry : (g : RegimeWords) (n : ℕ) (e : EntryStruct) (m : List ℕ) (a : Access) → accessedEntry (regimeSpare0 g) n (entrySpare0 e) m a .entry ≡ entrySpare0 (accessedEntry g n e m a .entry)
 accessed-entry g n e m a =
-    kept e (pageFor a) (accessIn ours (regimeIn (regimeSpare0 g) n) m a (entryView e) .kept)
-    ∙ ap (λ (r : Option Regime). entrySpare0 (keptEntry e (pageFor a) (accessIn ours r m a (entryView e) .kept))) (regime-in g n)
+    ap (λ (w : Walked). keptEntry (entrySpare0 e) (pageFor a) (w .kept)) (given-spare g n e m a)
+    ∙ kept e (pageFor a) (accessIn ours (regimeIn g n) m a (entryView e) .kept) (low-in (regimeIn g n) m a (entryView e))
 
 -- sessions alike in all but their entries
 with-entries : (s : SessionStruct) (es fs : List EntryStruct) → es ≡ map entrySpare0 fs → withEntries (sessionSpare0 s) es ≡ sessionSpare0 (withEntries s fs)
@@ -110,9 +112,27 @@ after s m dropAll = with-entries s emptyEntries emptyEntries (sym (same-entries 
 abbrev spareless : Handed SessionStruct Reply → Handed SessionStruct Reply
 spareless x = handed (sessionSpare0 (x .session)) (x .memory) (x .reply)
 
+-- what it tells: the reply and the memory of the model's call
+abbrev toldBy : Session → List ℕ → Call → Told Reply
+toldBy s m c = told (call ours s m c .reply) (call ours s m c .memory)
+
+told-spare : (s : SessionStruct) (m : List ℕ) (c : Call) → toldBy (sessionView (sessionSpare0 s)) m c ≡ toldBy (sessionView s) m c
+told-spare s m (setRegime r) = by (andThen (ours .memoryCheck r (length m)) (ours .settingCheck r))
+  where
+    by : (x : Checked) → _≡_ {A = Told Reply} (told (setBy ours (sessionView (sessionSpare0 s)) m r x .reply) (setBy ours (sessionView (sessionSpare0 s)) m r x .memory)) (told (setBy ours (sessionView s) m r x .reply) (setBy ours (sessionView s) m r x .memory))
+    by Accepted = refl
+    by (Refused x) = refl
+told-spare s m (access a) =
+    ap (λ (y : Stepped). told (y .reply) (y .memory)) (sym (access-is (sessionSpare0 s) m a))
+    ∙ ap (λ (e : EntryStruct). let w = accessIn ours (regimeIn (regimeSpare0 (s .regime)) (s .set)) m a (entryView e) in told (w .reply) (w .memory)) (entry-at (s .entries) (entryFor a))
+    ∙ ap (λ (w : Walked). told (w .reply) (w .memory)) (given-spare (s .regime) (s .set) (entryIn s a) m a)
+    ∙ ap (λ (y : Stepped). told (y .reply) (y .memory)) (access-is s m a)
+told-spare s m (store address value) = ap (λ (g : Option Regime). let t = storeIn ours g m address value in told (t .reply) (t .memory)) (regime-in (s .regime) (s .set))
+told-spare s m dropAll = refl
+
 leaves-spareless : (s : SessionStruct) (m : List ℕ) (c : Call) → leaves (sessionSpare0 s) m c ≡ spareless (leaves s m c)
 leaves-spareless s m c =
-    ap (λ (t : Session). handed (sessionAfter (sessionSpare0 s) m c) (call ours t m c .memory) (call ours t m c .reply)) (session-spare s)
+    ap (λ (t : Told Reply). handed (sessionAfter (sessionSpare0 s) m c) (t .memory) (t .reply)) (told-spare s m c)
     ∙ ap (λ (t : SessionStruct). handed t (leaves s m c .memory) (leaves s m c .reply)) (after s m c)
 
 sessions : (s t : SessionStruct) → sessionSpare0 s ≡ sessionSpare0 t → (m : List ℕ) (c : Call) → spareless (leaves s m c) ≡ spareless (leaves t m c)

@@ -12,7 +12,7 @@ use Rattle.vmsa.specs.declared.Access.{Access}
 use Rattle.checks.specs.declared.Checked.the-variants.{Accepted}
 use Rattle.checks.specs.Order.{walkCheck}
 use Rattle.walk.specs.Walk.{Outcome, walk, poolBytes}
-use Rattle.rules.specs.Tables.{traceOf, bareWalk}
+use Rattle.rules.specs.Tables.{traceOf}
 use Rattle.rules.proofs.Rule1.{rule1}
 use Rattle.rules.proofs.Rule2.{rule2}
 use Rattle.tlb.specs.Replies.{Told, told}
@@ -88,7 +88,8 @@ module _ (m : List ℕ) (g : RegimeWords) (a : AccessWords) where
         fault-cacheable = λ t. rule2 .faultCacheable R A m (faultIn w) (of-fault w x refl t);
         written = λ t b k l. rule2 .written R A m (successIn w) (succeeded t) b k l;
         bare = λ h. let e = rule2 .bare R A m h in (ap (λ (o : Outcome). wordsOf (o .result)) e, ap (λ (o : Outcome). o .bytes) e);
-        readOnly = λ t l h. rule2 .readOnly R A m (successIn w) (succeeded t) l h;
+        sum = rule2 .sum R A m;
+        readOnly = λ t h. rule2 .readOnly R A m (successIn w) (succeeded t) h;
         reads = λ t. reads-of x refl t;
       }
 

@@ -11,7 +11,7 @@ use Rattle.descriptor.specs.Bits.{bit}
 use Rattle.geometry.specs.Geometry.{levelOf, outputLimit}
 use Rattle.vmsa.specs.Words.{flag, regimeOf}
 use Rattle.vmsa.specs.Kinds.{isProbe, asksWrite, writes}
-use Rattle.vmsa.specs.Fields.{af, ap2, noWriteBelow}
+use Rattle.vmsa.specs.Fields.{af, ap2}
 use Rattle.vmsa.specs.Answers.{codeOf}
 use Rattle.vmsa.specs.declared.Regime.{Regime}
 use Rattle.vmsa.specs.declared.RegimeWords.{RegimeWords}
@@ -23,8 +23,8 @@ use Rattle.permission.specs.Permission.{writable}
 use Rattle.walk.specs.Walk.{poolBytes}
 use Rattle.rules.specs.Rule1.{FirstNumber, Managed}
 use Rattle.rules.specs.Steps.{AllPass, FirstFails}
-use Rattle.rules.specs.Tables.{traceOf, TablesOff, TablesClear, bareWalk}
-use Rattle.rules.specs.Rule2.{stepsOf, LeafOf, offset, Placed, Right, FlagUpdate, DirtyUpdate}
+use Rattle.rules.specs.Tables.{traceOf, TablesOff, TablesClear, InSum, bareWalk}
+use Rattle.rules.specs.Rule2.{stepsOf, LeafOf, offset, Placed, Right, FlagUpdate, DirtyUpdate, SumOf}
 use Rattle.tlb.specs.Walker.{noRegime}
 use Rattle.tlb.specs.Ours.{ours}
 use Rattle.tlb.specs.Entries.{pageFor, entryFor}
@@ -84,8 +84,9 @@ module _ (m : List ℕ) (g : RegimeWords) (a : AccessWords) (m′ : List ℕ) (w
         → (af (desc m′ (offset l)) ≡ true) × (ap2 (desc m′ (offset l)) ≡ false) × (writable R (record { value = desc m′ (offset l); left = l .left; tables = l .tables }) ≡ true)
     -- where HPD is on, or no table on the way has one of bits 62 to 59, it is as by the rules in which they have no say
     pub bare : TablesOff R A ⊎ TablesClear R A m → (w ≡ wordsOf (bareWalk R A m .result)) × (m′ ≡ bareWalk R A m .bytes)
-    -- under a table with bit 62 a success asked for no write, and made nothing dirty
-    pub readOnly : w .tag ≡ 0 → (l : LeafOf R A m) → noWriteBelow (l .tables) ≡ true → (asksWrite (A .kind) ≡ false) × (flag (w .dirtied) ≡ false)
+    -- a leaf's sum is that of the tables on the way; with bit 62 in it a success asked for no write, and made nothing dirty
+    pub sum : (l : LeafOf R A m) → SumOf l
+    pub readOnly : w .tag ≡ 0 → InSum 62 R A m → (asksWrite (A .kind) ≡ false) × (flag (w .dirtied) ≡ false)
     -- a success may be remembered where AF is 1 afterwards; a fault, where a leaf with AF 1 was reached and step 7 or 8 failed
     pub cacheable : w .tag ≡ 0 → Bytes m → (l : LeafOf R A m) → flag (w .cacheable) ≡ af (desc m′ (offset l))
     pub fault-cacheable : w .tag ≡ 1

@@ -1,5 +1,5 @@
--- Spare numbers of the C structs (RULES 15.5): they have no say in what is given, and are 0 in what is returned.
-use Prim.Native.Nat.{ℕ}
+-- Spare numbers of the C structs (RULES 15.5), and bits 7 to 4 of an entry's tables (RULES 15.8): they have no say in what is given, and are 0 in what is returned.
+use Prim.Native.Nat.{ℕ, _%_}
 use mathlib.Core.List.{List, map}
 use mathlib.Core.Path.{_≡_}
 use Rattle.vmsa.specs.declared.RegimeWords.{RegimeWords}
@@ -42,7 +42,7 @@ abbrev pub accessSpare0 : AccessWords → AccessWords
 accessSpare0 a = record { address = a .address; size = a .size; el0 = a .el0; kind = a .kind; spare16 = 0; spare32 = 0 }
 
 abbrev pub entrySpare0 : EntryStruct → EntryStruct
-entrySpare0 e = record { page = e .page; value = e .value; left = e .left; held = e .held; tables = e .tables; spare8 = 0; spare32 = 0 }
+entrySpare0 e = record { page = e .page; value = e .value; left = e .left; held = e .held; tables = e .tables % 16; spare8 = 0; spare32 = 0 }
 
 -- those of its regime and its entries too
 abbrev pub sessionSpare0 : SessionStruct → SessionStruct

@@ -84,18 +84,18 @@ pub unusable-outcome : (r : Regime) (m : List ℕ) (a : Access) (w : Walked) →
 unfolding located
 unusable-outcome r m a w u e = e ∙ rw u
 
--- ---- the leaf that an access keeps stands at a level
+-- ---- the leaf that an access keeps stands at a level, and its sum has four bits
 
-abbrev Low : Option Leaf → Type 0
+abbrev pub Low : Option Leaf → Type 0
 Low none = Unit {0}
-Low (some l) = l .left ≤ 3
+Low (some l) = (l .left ≤ 3) × (l .tables < 16)
 
 low-walk : (r : Regime) (m : List ℕ) (a : Access) (x : Spot) → located r m (ours .page r a) ≡ x → Low (walkFrom ours r m a x .kept)
 low-walk r m a (lost code level n) q = tt
 low-walk r m a (foundAt at u n) q = by (cacheableIn (judged r u a))
   where
     by : (b : Bool) → Low (pick b (some (revalued u (stamped (judged r u a) (u .value)))) none)
-    by true = in-the-pool r m (ours .page r a) (where-found r m (ours .page r a) q) .reached .low
+    by true = let g = in-the-pool r m (ours .page r a) (where-found r m (ours .page r a) q) .reached in (g .low, g .few)
     by false = tt
 
 low-held : (r : Regime) (m : List ℕ) (a : Access) (h : Option Leaf) → Low (accessHeld ours r m a h .kept)
@@ -110,7 +110,7 @@ low-by : (r : Regime) (m : List ℕ) (a : Access) (h : Option Leaf) (x : Checked
 low-by r m a h Accepted = low-held r m a h
 low-by r m a h (Refused x) = tt
 
-low-in : (g : Option Regime) (m : List ℕ) (a : Access) (e : Entry) → Low (accessIn ours g m a e .kept)
+pub low-in : (g : Option Regime) (m : List ℕ) (a : Access) (e : Entry) → Low (accessIn ours g m a e .kept)
 low-in none m a e = tt
 low-in (some r) m a e = low-by r m a (heldIn e (ours .page r a)) (andThen (ours .memoryCheck r (length m)) (ours .accessCheck a))
 
@@ -121,7 +121,7 @@ keptIn e page (some leaf) = holds page leaf
 
 kept-by : (e : EntryStruct) (page : ℕ) (k : Option Leaf) → Low k → entryView (keptEntry e page k) ≡ keptIn (entryView e) page k
 kept-by e page none h = refl
-kept-by e page (some leaf) h = kept-view page leaf h
+kept-by e page (some leaf) h = kept-view page leaf (h .0)
 
 pub accessed-view : (g : Option Regime) (m : List ℕ) (a : Access) (e : EntryStruct)
     → entryView (keptEntry e (pageFor a) (accessIn ours g m a (entryView e) .kept)) ≡ keptIn (entryView e) (pageFor a) (accessIn ours g m a (entryView e) .kept)

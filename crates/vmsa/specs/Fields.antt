@@ -45,9 +45,12 @@ clearAp2 v = clearBit 7 v
 
 -- ---- tables (the customer's papers: a table's extra bits)
 
--- bits 62 to 59 of a table descriptor, as a number of four bits
+-- bits 62 to 59 of a table descriptor, as a number of four bits; and no table's
 unfoldable pub tableBits : ℕ → ℕ
 tableBits v = field 59 4 v
+
+abbrev pub noTables : ℕ
+noTables = 0
 
 -- the sum of tables, and one more: each bit where either has it
 unfoldable pub withTable : ℕ → ℕ → ℕ

@@ -22,7 +22,7 @@ pub const OUTPUT_MOST: u8 = 5;
 
 pub const PAGE_BITS: u8 = 12;
 
-// Bits of a leaf descriptor, and of the sum of the tables above it; specs/Fields.antt has the same numbers.
+// Bits of a leaf descriptor; specs/Fields.antt has the same numbers.
 pub const AP1: u8 = 6;
 
 pub const AP2: u8 = 7;
@@ -37,7 +37,8 @@ pub const PXN: u8 = 53;
 
 pub const UXN: u8 = 54;
 
-pub const TABLE_BITS: u8 = 59;
+// The bits of a table descriptor that count below it: where they start, and how many; and the bits of their sum.
+pub const TABLE_START: u8 = 59;
 
 pub const TABLE_WIDTH: u8 = 4;
 

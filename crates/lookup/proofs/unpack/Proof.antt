@@ -13,7 +13,7 @@ use Rattle.lookup.proofs.unpack.Tie as tie
 sub-reads : tie.Need-sub-reads
 sub-reads c =
     let a = c .before .args in
-    first-most (a .pool .now) (a .base .0) (a .hpd) (a .first) (a .n) (c .before .pre)
+    omega (arith, first-most (a .pool .now) (a .base .0) (a .hpd) (a .first) (a .n) (c .before .pre))
 
 returns : tie.Need-returns
 returns c = λ p.
