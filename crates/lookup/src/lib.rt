@@ -186,7 +186,7 @@ fn table_bits(v: u64) -> u64
     descriptor::field(v, vmsa::TABLE_START, vmsa::TABLE_WIDTH)
 }
 
-// Reads the entry of a table, and follows it. tables is the descriptors of those on the way, or-ed: its bits 62 to 59 are their sum, the others have no say.
+// Reads the entry of a table, and follows it. met is the descriptors of the tables on the way, or-ed: its bits 62 to 59 are their sum, the others have no say.
 fn enter(
     pool: &[u8],
     base: PhysAddr,
@@ -195,10 +195,10 @@ fn enter(
     page: u8,
     table: PhysAddr,
     left: u8,
-    tables: u64,
+    met: u64,
 ) -> u64
     requires { ⌜ Paged page × (left ≤ 3) × (table .0 < addressLimit) ⌝ }
-    ensures { λ n. ⌜ n ≡ packed (descend (context base limit input page) (fetched (now (pool .entry)) (base .0)) (suc left) (tableBits tables) (table .0)) ⌝ }
+    ensures { λ n. ⌜ n ≡ packed (descend (context base limit input page) (fetched (now (pool .entry)) (base .0)) (suc left) (tableBits met) (table .0)) ⌝ }
 {
     let c = Context {
         base: base,
@@ -210,7 +210,7 @@ fn enter(
     let Word::Value(v) = fetch(pool, base, at) else {
         return pack(left, kind_number(FaultKind::ExternalAbort), 0, PhysAddr(0));
     };
-    follow(pool, base, limit, input, page, at, v, left, tables)
+    follow(pool, base, limit, input, page, at, v, left, met)
 }
 
 // Decodes the descriptor v at an address, and descends at a table.
@@ -223,15 +223,15 @@ fn follow(
     at: PhysAddr,
     v: u64,
     left: u8,
-    tables: u64,
+    met: u64,
 ) -> u64
     requires { ⌜ Paged page × (left ≤ 3) × (at .0 < 2 ^ 49) ⌝ }
-    ensures { λ n. ⌜ n ≡ packed (followed (context base limit input page) (descend (context base limit input page) (fetched (now (pool .entry)) (base .0)) left) (tableBits tables) left (at .0) v) ⌝ }
+    ensures { λ n. ⌜ n ≡ packed (followed (context base limit input page) (descend (context base limit input page) (fetched (now (pool .entry)) (base .0)) left) (tableBits met) left (at .0) v) ⌝ }
 {
     match decode(page, limit, left, v) {
         Next::Fault(kind) => pack(left, kind_number(kind), 0, PhysAddr(0)),
-        Next::Table(table) => enter(pool, base, limit, input, page, table, left - 1, tables | v),
-        Next::Leaf => pack(left, LEAF, table_bits(tables), at),
+        Next::Table(table) => enter(pool, base, limit, input, page, table, left - 1, met | v),
+        Next::Leaf => pack(left, LEAF, table_bits(met), at),
     }
 }
 

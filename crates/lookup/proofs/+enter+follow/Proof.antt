@@ -75,7 +75,7 @@ enter-returns t c =
     let read = fetched (a .pool .now) (a .base .0) in
     c .pack .ensures
     ∙ ap (λ (number : ℕ). joined (levelOf (a .left)) number 0 0) (c .before .kind-number .ensures .0)
-    ∙ sym (abort-packed k read (a .left) (tableBits (a .tables)) (a .table .0)
+    ∙ sym (abort-packed k read (a .left) (tableBits (a .met)) (a .table .0)
     (rw (← c .before .before .before .before .before .entry-at .ensures .0) (sym (c .before .before .before .before .fetch .ensures) ∙ c .before .before .enum-told .given .1)))
 
 enter-follow-requires : (t : ℕ) → enter-lts.Need-follow-requires (enter-calls t) (enter-at t) enter.Post
@@ -87,7 +87,7 @@ enter-returns-2 t c =
     let k = context (a .base) (a .limit) (a .input) (a .page) in
     let read = fetched (a .pool .now) (a .base .0) in
     c .follow .ensures
-    ∙ sym (rw (← c .before .before .before .before .before .entry-at .ensures .0) at (value-packed k read (a .left) (tableBits (a .tables)) (a .table .0) (c .before .before .v .given .0 .0)
+    ∙ sym (rw (← c .before .before .before .before .before .entry-at .ensures .0) at (value-packed k read (a .left) (tableBits (a .met)) (a .table .0) (c .before .before .v .given .0 .0)
     (rw (← c .before .before .before .before .before .entry-at .ensures .0) (sym (c .before .before .before .before .fetch .ensures) ∙ c .before .before .v .given .1))))
 
 follow-decode-requires : (t : ℕ) → follow-lts.Need-decode-requires (follow-calls t) (follow-at t) follow.Post
@@ -131,7 +131,7 @@ follow-returns t c =
     let read = fetched (a .pool .now) (a .base .0) in
     c .pack .ensures
     ∙ ap (λ (number : ℕ). joined (levelOf (a .left)) number 0 0) (c .before .kind-number .ensures .0)
-    ∙ sym (fault-packed k (descend k read (a .left)) (tableBits (a .tables)) (a .left) (a .at .0) (a .v) _ (sym (c .before .before .before .before .before .decode .ensures .0) ∙ c .before .before .before .kind .given .1))
+    ∙ sym (fault-packed k (descend k read (a .left)) (tableBits (a .met)) (a .left) (a .at .0) (a .v) _ (sym (c .before .before .before .before .before .decode .ensures .0) ∙ c .before .before .before .kind .given .1))
 
 follow-returns-2 : (t : ℕ) → follow-lts.Need-returns-2 (follow-calls t) (follow-at t) follow.Post
 follow-returns-2 t c =
@@ -140,9 +140,9 @@ follow-returns-2 t c =
     let read = fetched (a .pool .now) (a .base .0) in
     let h : Sound (c .before .before .before .before .before .before .args .left) (Table (c .before .before .table .given .0 .0)) = rw (c .before .before .table .given .1) at (c .before .before .before .before .decode .ensures .1) in
     c .enter .ensures
-    ∙ sym (table-packed k (descend k read (a .left)) (tableBits (a .tables)) (a .left) (a .at .0) (a .v) _ (sym (c .before .before .before .before .decode .ensures .0) ∙ c .before .before .table .given .1)
-    ∙ ap (λ (n : ℕ). packed (descend k read n (withTable (tableBits (a .tables)) (a .v)) (c .before .before .table .given .0 .0 .0))) (sym (down-up (a .left) (h .1)))
-    ∙ ap (λ (sum : ℕ). packed (descend k read (suc (a .left - 1)) sum (c .before .before .table .given .0 .0 .0))) (sym (or-bits (a .tables) (a .v))))
+    ∙ sym (table-packed k (descend k read (a .left)) (tableBits (a .met)) (a .left) (a .at .0) (a .v) _ (sym (c .before .before .before .before .decode .ensures .0) ∙ c .before .before .table .given .1)
+    ∙ ap (λ (n : ℕ). packed (descend k read n (withTable (tableBits (a .met)) (a .v)) (c .before .before .table .given .0 .0 .0))) (sym (down-up (a .left) (h .1)))
+    ∙ ap (λ (sum : ℕ). packed (descend k read (suc (a .left - 1)) sum (c .before .before .table .given .0 .0 .0))) (sym (or-bits (a .met) (a .v))))
 
 follow-returns-3 : (t : ℕ) → follow-lts.Need-returns-3 (follow-calls t) (follow-at t) follow.Post
 follow-returns-3 t c =
@@ -151,7 +151,7 @@ follow-returns-3 t c =
     let read = fetched (a .pool .now) (a .base .0) in
     c .pack2 .ensures
     ∙ ap (λ (sum : ℕ). joined (levelOf (a .left)) leafNumber sum (a .at .0)) (c .before .table-bits .ensures .0)
-    ∙ sym (leaf-packed k (descend k read (a .left)) (tableBits (a .tables)) (a .left) (a .at .0) (a .v) (sym (c .before .before .before .before .decode .ensures .0) ∙ c .before .before .enum-told .given .1))
+    ∙ sym (leaf-packed k (descend k read (a .left)) (tableBits (a .met)) (a .left) (a .at .0) (a .v) (sym (c .before .before .before .before .decode .ensures .0) ∙ c .before .before .enum-told .given .1))
 
 pub +enter+follow-spec : {M : Type 1} → statement M
 +enter+follow-spec = close μ-enter μ-follow (λ t. enter-lts.spec (enter-calls t)
