@@ -33,9 +33,9 @@
  * every byte, whatever stood there, so they need not be initialised.
  *
  * No struct has padding; bytes without a use are named spare. In what you pass
- * they may have any value, and have no say. In what is returned they are 0, so
- * answers, and sessions that began with vmsa_session_empty, may be compared
- * with memcmp.
+ * they may have any value, and have no say; pass 0 all the same, since a later
+ * version may give them a use. In what is returned they are 0, so answers, and
+ * sessions that began with vmsa_session_empty, may be compared with memcmp.
  *
  * Threads
  *
@@ -214,7 +214,7 @@ struct vmsa_entry {
     uint64_t value; /* the leaf descriptor */
     uint8_t left;   /* levels below it: 3 less its level */
     uint8_t held;
-    uint8_t tables; /* bits 3 to 0: bits 62 to 59 of those tables, added up;
+    uint8_t tables; /* bits 3 to 0: bits 62 to 59 of those tables, or-ed;
                        bits 7 to 4 have no say */
     uint8_t spare[5];
 };
@@ -236,14 +236,14 @@ uint32_t vmsa_version(void);
 /*
  * Walks the tables for one access, and holds nothing. On success with ha the
  * leaf's Access flag is set; with hd too, a write or update of a
- * writable-clean page (DBM and AP[2] both 1) also clears AP[2]. Otherwise,
- * and for any probe, no byte of the memory changes.
+ * writable-clean page (DBM and AP[2] both 1, and no bit 62 above it) also
+ * clears AP[2]. Otherwise, and for any probe, no byte of the memory changes.
  *
  * A table descriptor takes permissions away from all that lies below it: with
  * bit 62 (APTable[1]) nothing may be written, and so nothing is marked dirty;
  * with bit 61 (APTable[0]) AP[1] counts as 0, with bit 60 (UXNTable) UXN as 1,
- * with bit 59 (PXNTable) PXN as 1. The bits of all tables on the way add up.
- * None of them counts where hpd0 or hpd1, that of the address's range, is set.
+ * with bit 59 (PXNTable) PXN as 1. Each counts where any table on the way has
+ * it, and none where hpd0 or hpd1, that of the address's range, is set.
  */
 void vmsa_walk(uint8_t *memory, size_t length,
                const struct vmsa_regime *regime,

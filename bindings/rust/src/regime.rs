@@ -63,13 +63,13 @@ impl Range {
         hpd: false,
     };
 
-    /// Switches off what the range's tables take away from all below them
-    /// (TCR_EL1.HPD0, HPD1).
+    /// Whether what the range's tables take away from all below them does not
+    /// count (TCR_EL1.HPD0, HPD1).
     ///
     /// Below a table descriptor with bit 62 (APTable\[1\]) nothing may be
     /// written, and so nothing is marked dirty; with bit 61 (APTable\[0\])
     /// AP\[1\] counts as 0, with bit 60 (UXNTable) UXN as 1, with bit 59
-    /// (PXNTable) PXN as 1. The bits of all tables on the way add up.
+    /// (PXNTable) PXN as 1. Each counts where any table on the way has it.
     ///
     /// ```
     /// use vmsa::{walk, Access, FaultKind, PhysAddr, Pool, Range, Regime, Stop, VirtAddr};

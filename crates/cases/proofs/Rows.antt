@@ -15,7 +15,7 @@ use Rattle.refusals.specs.Tests.{memoryPoolBad, poolAddressBad, tszBad, sizesBa
 use Rattle.checks.specs.Order.{walkCheck}
 use Rattle.vmsa.specs.declared.AccessKind.the-variants.{Read}
 use Rattle.lookup.specs.Trace.{Trace}
-use Rattle.lookup.specs.Steps.{invalid, isTable, addressIn, decoded, entryAt, followed, entered, descend, upper, rangeOf, outside, contextOf, locate}
+use Rattle.lookup.specs.Steps.{invalid, isTable, addressIn, decoded, entryAt, followed, entered, descend, upper, rangeOf, outside, contextOf, lookup, locate}
 use Rattle.permission.specs.Permission.{attributeOf, writable, clean, user, uxn, pxn, mayRead, mayWrite, mayFetchWith, mayFetch, permitted, misaligned, flagFails, alignmentFails, permissionFails}
 use Rattle.decision.specs.Decision.{flagDue, dirtyDue, updated, cacheable, outputOf, failing, passing, decision}
 use Rattle.walk.specs.Walk.{Outcome}
@@ -58,12 +58,12 @@ unfolding allSound rows allPlaced placed
 all-sound = refl
 
 all-computed : outcomes computed rows ≡ outcomes expected rows
-unfolding outcomes rows puts valueAt quick quickWalk setBit clearBit pageSize strideBits unaligned pageOf levelOf shiftOf span blockAt firstLeft cut outputBits outputLimit attribute device normal memoryPoolBad poolAddressBad tszBad sizesBad rootBad rootsBad attributeBad attributesBad dirtyStateBad accessSizeBad lastByte crossing walkCheck invalid isTable addressIn decoded entryAt followed entered descend upper rangeOf outside contextOf locate tableBits withTable attributeOf writable clean user uxn pxn mayRead mayWrite mayFetchWith mayFetch permitted misaligned flagFails alignmentFails permissionFails flagDue dirtyDue updated cacheable outputOf failing passing decision
+unfolding outcomes rows puts valueAt quick quickWalk setBit clearBit pageSize strideBits unaligned pageOf levelOf shiftOf span blockAt firstLeft cut outputBits outputLimit attribute device normal memoryPoolBad poolAddressBad tszBad sizesBad rootBad rootsBad attributeBad attributesBad dirtyStateBad accessSizeBad lastByte crossing walkCheck invalid isTable addressIn decoded entryAt followed entered descend upper rangeOf outside contextOf lookup locate tableBits withTable attributeOf writable clean user uxn pxn mayRead mayWrite mayFetchWith mayFetch permitted misaligned flagFails alignmentFails permissionFails flagDue dirtyDue updated cacheable outputOf failing passing decision
 all-computed = refl
 
 visited : (ds : List (ℕ × ℕ)) → allPlaced (base .pool .length) ds ≡ true → visitedIn ds ≡ locate base (quick (base .pool .length) ds poolAddress) (usual Read .address .0) .visited
 visited ds ok = ap (λ (t : Trace). t .visited) (traced-quick base (usual Read .address .0) ds ok)
 
 pub worked : Worked
-unfolding Worked bytesOf digits allPlaced placed valueAt quick pageSize strideBits unaligned pageOf levelOf shiftOf span blockAt firstLeft cut outputBits outputLimit attribute device normal memoryPoolBad poolAddressBad tszBad sizesBad rootBad rootsBad attributeBad attributesBad dirtyStateBad accessSizeBad lastByte crossing walkCheck invalid isTable addressIn decoded entryAt followed entered descend upper rangeOf outside contextOf locate tableBits withTable
+unfolding Worked bytesOf digits allPlaced placed valueAt quick pageSize strideBits unaligned pageOf levelOf shiftOf span blockAt firstLeft cut outputBits outputLimit attribute device normal memoryPoolBad poolAddressBad tszBad sizesBad rootBad rootsBad attributeBad attributesBad dirtyStateBad accessSizeBad lastByte crossing walkCheck invalid isTable addressIn decoded entryAt followed entered descend upper rangeOf outside contextOf lookup locate tableBits withTable
 worked = (each rows all-sound all-computed, refl, visited (withThird 0x4000F003) refl, visited (withThird 0x40010003) refl, refl, refl)

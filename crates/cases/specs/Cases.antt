@@ -215,18 +215,28 @@ rows =
     -- the same of the longest pool
     ∷ row longest (access 0x5FFABC 4 Write) (withThird 0x400FF003 ++ stored 0x400FFFF8 leaf ∷ []) (passed 0x80005ABC true true true) (stored 0x400FFFF8 dirtyLeaf ∷ [])
     ∷ row longest (access 0x400ABC 4 Write) (withThird 0x40100003) (failed 23 3 false 4) []
-    -- P2's write under bit 62 of the second table; with HPD on for its range it is P2's, and the other range's has no say
+    -- P2's write with bit 62 in the second descriptor; with HPD on for its range it is P2's, and the other range's has no say
     ∷ row base (usual Write) (underSecond 0b01000 leaf) (failed 15 3 false 4) []
     ∷ row (withHpd0 base true) (usual Write) (underSecond 0b01000 leaf) (passed 0x80005ABC true true true) (leafNow dirtyLeaf)
     ∷ row (withHpd1 base true) (usual Write) (underSecond 0b01000 leaf) (failed 15 3 false 4) []
-    -- a read under bit 61, by EL0 and by EL1
+    -- bit 62 takes writing from EL1 too, and no reading
+    ∷ row base (fromEl1 (usual Write)) (underSecond 0b01000 leaf) (failed 15 3 false 4) []
+    ∷ row base (usual Read) (underSecond 0b01000 leaf) (passed 0x80005ABC true false true) (leafNow accessedLeaf)
+    -- a read and a write under bit 61, by EL0 and by EL1
     ∷ row base (usual Read) (underSecond 0b00100 leaf) (failed 15 3 false 4) []
     ∷ row base (fromEl1 (usual Read)) (underSecond 0b00100 leaf) (passed 0x80005ABC true false true) (leafNow accessedLeaf)
+    ∷ row base (usual Write) (underSecond 0b00100 leaf) (failed 15 3 false 4) []
+    ∷ row base (fromEl1 (usual Write)) (underSecond 0b00100 leaf) (passed 0x80005ABC true true true) (leafNow dirtyLeaf)
+    -- bits 60 and 59 are for fetches alone: P2's write under both
+    ∷ row base (usual Write) (underSecond 0b00011 leaf) (passed 0x80005ABC true true true) (leafNow dirtyLeaf)
     -- a fetch under bit 60 (UXN) and under bit 59 (PXN), by EL0 and by EL1
     ∷ row base (usual Fetch) (underSecond 0b00010 kernelLeaf) (failed 15 3 false 4) []
     ∷ row base (fromEl1 (usual Fetch)) (underSecond 0b00010 kernelLeaf) (passed 0x80005ABC true false true) (leafNow accessedKernelLeaf)
     ∷ row base (usual Fetch) (underSecond 0b00001 kernelLeaf) (passed 0x80005ABC true false true) (leafNow accessedKernelLeaf)
     ∷ row base (fromEl1 (usual Fetch)) (underSecond 0b00001 kernelLeaf) (failed 15 3 false 4) []
+    -- EL0 may fetch under bits 61 and 62, also what it may not read
+    ∷ row base (usual Fetch) (underSecond 0b00100 leaf) (passed 0x80005ABC true false true) (leafNow accessedLeaf)
+    ∷ row base (usual Fetch) (underSecond 0b01000 leaf) (passed 0x80005ABC true false true) (leafNow accessedLeaf)
     -- where EL0 may write EL1 may not fetch; with bit 61 or 62 in the sum EL0 may not write, and EL1 may fetch
     ∷ row base (fromEl1 (usual Fetch)) tables (failed 15 3 false 4) []
     ∷ row base (fromEl1 (usual Fetch)) (underSecond 0b00100 leaf) (passed 0x80005ABC true false true) (leafNow accessedLeaf)
@@ -241,6 +251,8 @@ rows =
     -- UXN from the first table and PXN from the third add up
     ∷ row base (usual Fetch) (descriptors 0x1000000040001003 0x40002003 0x0800000040003003 kernelLeaf) (failed 15 3 false 4) []
     ∷ row base (fromEl1 (usual Fetch)) (descriptors 0x1000000040001003 0x40002003 0x0800000040003003 kernelLeaf) (failed 15 3 false 4) []
+    -- HPD changes no fault before a leaf, nor its count: P6 with it on
+    ∷ row (withHpd0 base true) (usual Read) (withThird 0x4000F003) (failed 7 3 false 4) []
     -- bit 63 of a table has no say, and a leaf's own bits 63 to 59 have none
     ∷ row base (usual Write) (underSecond 0b10000 leaf) (passed 0x80005ABC true true true) (leafNow dirtyLeaf)
     ∷ row base (usual Write) (withLeaf 0xF8080000800053C3) (passed 0x80005ABC true true true) (leafNow 0xF808000080005743)

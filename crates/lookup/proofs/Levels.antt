@@ -21,7 +21,7 @@ use Rattle.lookup.specs.declared.Word.the-variants.{Value, Unreachable}
 use Rattle.lookup.specs.declared.Next.the-variants as next
 use Rattle.lookup.specs.declared.Context.{Context}
 use Rattle.lookup.specs.Trace.{fault, Trace, ended, heeded}
-use Rattle.lookup.specs.Steps.{isTable, decoded, followed, context, entryAt, entered, descend, rangeOf, outside, contextOf, locate}
+use Rattle.lookup.specs.Steps.{isTable, decoded, followed, context, entryAt, entered, descend, rangeOf, outside, contextOf, lookup, locate}
 use Rattle.lookup.specs.Packing.{kindNumber, leafNumber, joined, packed}
 
 -- a table has a level below it
@@ -61,19 +61,19 @@ module _ (c : Context) (read : ℕ → Word) (left sum table : ℕ) where
 
 module _ (r : Regime) (read : ℕ → Word) (a : ℕ) (range : Range) (e : range ≡ rangeOf r a) where
   pub locate-off : (range .disabled || outside (range .tsz) a) ≡ true → locate r read a ≡ ended (fault Translation 0)
-  unfolding locate
+  unfolding lookup locate
   locate-off h = rw (rw e at h)
 
   pub locate-root : (range .disabled || outside (range .tsz) a) ≡ false → outputLimit (r .output) ≤ range .root .0
       → locate r read a ≡ ended (fault AddressSize 0)
-  unfolding locate
+  unfolding lookup locate
   locate-root h q = rw (rw e at h, le-leb (outputLimit (r .output)) (rangeOf r a .root .0) (rw e at q))
 
   pub locate-go : (range .disabled || outside (range .tsz) a) ≡ false → (limit power left : ℕ) → limit ≡ outputLimit (r .output) → range .root .0 < limit
       → power ≡ 2 ^ (64 - range .tsz) → left ≡ firstLeft pageBits (range .tsz)
       → (c : Context) → c ≡ context (r .pool .address) (record { 0 = limit }) (record { 0 = a % power }) pageBits
       → locate r read a ≡ heeded (range .hpd) (descend c read (suc left) noTables (range .root .0))
-  unfolding locate contextOf
+  unfolding lookup locate contextOf
   locate-go h limit power left el q ep ef c ec =
       let h2 : (rangeOf r a .disabled || outside (rangeOf r a .tsz) a) ≡ false = rw e at h in
       let q2 : rangeOf r a .root .0 < outputLimit (r .output) = rw (e, el) at q in

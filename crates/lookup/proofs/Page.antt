@@ -16,7 +16,7 @@ use Rattle.vmsa.specs.Fields.{noTables}
 use Rattle.lookup.specs.declared.Word.{Word}
 use Rattle.lookup.specs.declared.Context.{Context}
 use Rattle.lookup.specs.Trace.{fault, Trace, ended, visit, heeded}
-use Rattle.lookup.specs.Steps.{onWord, followed, entryAt, entered, descend, upper, rangeOf, outside, contextOf, locate}
+use Rattle.lookup.specs.Steps.{onWord, followed, entryAt, entered, descend, upper, rangeOf, outside, contextOf, lookup, locate}
 
 -- a cut at bit n above the page bits sees the page alone
 cut-page : (a b n : ℕ) → 12 ≤ n → a / 4096 ≡ b / 4096 → a / 2 ^ n ≡ b / 2 ^ n
@@ -68,22 +68,20 @@ module _ (r : Regime) (a b : ℕ) (e : a / 4096 ≡ b / 4096) where
 
   descent : Range → (ℕ → Word) → ℕ → Trace
   descent range read x =
-      heeded (range .hpd)
-      (descend (record { base = r .pool .address; limit = record { 0 = outputLimit (r .output) }; input = record { 0 = x % 2 ^ (64 - range .tsz) }; page = pageBits }) read (suc (firstLeft pageBits (range .tsz))) noTables
-      (range .root .0))
+      descend (record { base = r .pool .address; limit = record { 0 = outputLimit (r .output) }; input = record { 0 = x % 2 ^ (64 - range .tsz) }; page = pageBits }) read (suc (firstLeft pageBits (range .tsz))) noTables
+      (range .root .0)
 
   descent-page : (range : Range) (read : ℕ → Word) → range .tsz ≤ tszMost → descent range read a ≡ descent range read b
   unfolding descent
   descent-page range read h =
-      ap (heeded (range .hpd))
-      (descend-page (r .pool .address) (record { 0 = outputLimit (r .output) }) pageBits (omega arith) read (a % 2 ^ (64 - range .tsz)) (b % 2 ^ (64 - range .tsz))
-      (mod-page a b (64 - range .tsz) (omega arith) e) (suc (firstLeft pageBits (range .tsz))) noTables (range .root .0))
+      descend-page (r .pool .address) (record { 0 = outputLimit (r .output) }) pageBits (omega arith) read (a % 2 ^ (64 - range .tsz)) (b % 2 ^ (64 - range .tsz))
+      (mod-page a b (64 - range .tsz) (omega arith) e) (suc (firstLeft pageBits (range .tsz))) noTables (range .root .0)
 
   opened : (read : ℕ → Word) (x : ℕ) (range : Range) → rangeOf r x ≡ range
       → locate r read x
-      ≡ pick (range .disabled || outside (range .tsz) x) (ended (fault Translation 0))
-      (pick (leb (outputLimit (r .output)) (range .root .0)) (ended (fault AddressSize 0)) (descent range read x))
-  unfolding locate contextOf descent
+      ≡ heeded (range .hpd) (pick (range .disabled || outside (range .tsz) x) (ended (fault Translation 0))
+      (pick (leb (outputLimit (r .output)) (range .root .0)) (ended (fault AddressSize 0)) (descent range read x)))
+  unfolding lookup locate contextOf descent
   opened read x range q = rw q
 
 range-most : (r : Regime) (a : ℕ) → Sized r → rangeOf r a .tsz ≤ tszMost

@@ -26,8 +26,8 @@ use Rattle.lookup.specs.declared.Word.the-variants.{Value, Unreachable}
 use Rattle.lookup.specs.declared.Next.{Next}
 use Rattle.lookup.specs.declared.Next.the-variants as next
 use Rattle.lookup.specs.declared.Context.{Context}
-use Rattle.lookup.specs.Trace.{End, fault, leaf, Trace, ended, heededEnd, heeded}
-use Rattle.lookup.specs.Steps.{decoded, fetched, onward, onWord, followed, entryAt, entered, descend, upper, rangeOf, outside, contextOf, locate}
+use Rattle.lookup.specs.Trace.{End, fault, leaf, Trace, ended, heededEnd}
+use Rattle.lookup.specs.Steps.{decoded, fetched, onward, onWord, followed, entryAt, entered, descend, upper, rangeOf, outside, contextOf, lookup, locate}
 use Rattle.lookup.specs.Packing.{endLevel, Backed}
 use Rattle.lookup.proofs.Decoding.{is-table, aligned8}
 
@@ -91,11 +91,11 @@ range-least r a z = by (upper a)
 
 -- at most 4 descriptors are visited
 pub locate-visited : (r : Regime) (read : ℕ → Word) (a : ℕ) → Sized r → length (locate r read a .visited) ≤ 4
-unfolding locate
+unfolding lookup locate
 locate-visited r read a z =
     let range = rangeOf r a in
     let c = contextOf r a in
-    let deep = heeded (range .hpd) (descend c read (suc (firstLeft pageBits (range .tsz))) noTables (range .root .0)) in
+    let deep = descend c read (suc (firstLeft pageBits (range .tsz))) noTables (range .root .0) in
     let short : Trace → Type 0 = λ t. length (t .visited) ≤ 4 in
     let beyond = leb (outputLimit (r .output)) (range .root .0) in
     let h : length (deep .visited) ≤ 4 =
@@ -110,20 +110,24 @@ abbrev ReadOnce : Trace → End → Type 0
 ReadOnce t (fault kind level) = Unit {0}
 ReadOnce t (leaf a l) = 1 ≤ length (t .visited)
 
-read-once : (c : Context) (read : ℕ → Word) (hpd : Bool) (n s t : ℕ) → ReadOnce (heeded hpd (descend c read (suc n) s t)) (heeded hpd (descend c read (suc n) s t) .end)
+read-once : (c : Context) (read : ℕ → Word) (n s t : ℕ) → ReadOnce (descend c read (suc n) s t) (descend c read (suc n) s t .end)
 unfolding descend entered
-read-once c read hpd n s t = by (onWord (ended (fault ExternalAbort (levelOf n))) (followed c (descend c read n) s n (entryAt c n t)) (read (entryAt c n t)))
+read-once c read n s t = by (onWord (ended (fault ExternalAbort (levelOf n))) (followed c (descend c read n) s n (entryAt c n t)) (read (entryAt c n t)))
   where
-    by-end : (l : List ℕ) (e : End) → ReadOnce (record { visited = entryAt c n t ∷ l; end = heededEnd hpd e }) (heededEnd hpd e)
+    by-end : (l : List ℕ) (e : End) → ReadOnce (record { visited = entryAt c n t ∷ l; end = e }) e
     by-end l (fault kind level) = tt
     by-end l (leaf a x) = suc-le-suc zero-le
 
-    by : (u : Trace) → ReadOnce (record { visited = entryAt c n t ∷ u .visited; end = heededEnd hpd (u .end) }) (heededEnd hpd (u .end))
+    by : (u : Trace) → ReadOnce (record { visited = entryAt c n t ∷ u .visited; end = u .end }) (u .end)
     by u = by-end (u .visited) (u .end)
 
+heeded-once : (hpd : Bool) (l : List ℕ) (e : End) → ReadOnce (record { visited = l; end = e }) e → ReadOnce (record { visited = l; end = heededEnd hpd e }) (heededEnd hpd e)
+heeded-once hpd l (fault kind level) h = tt
+heeded-once hpd l (leaf a x) h = h
+
 pub locate-read : (r : Regime) (read : ℕ → Word) (a : ℕ) {at : ℕ} {l : Leaf} → locate r read a .end ≡ leaf at l → 1 ≤ length (locate r read a .visited)
-unfolding locate
-locate-read r read a {at} {l} q = subst (ReadOnce (locate r read a)) q (once r read a)
+unfolding lookup locate
+locate-read r read a {at} {l} q = subst (ReadOnce (locate r read a)) q (heeded-once (rangeOf r a .hpd) (lookup r read a .visited) (lookup r read a .end) (once r read a))
   where
     picked : (off beyond : Bool) (t : Trace) → ReadOnce t (t .end)
         → ReadOnce (pick off (ended (fault Translation 0)) (pick beyond (ended (fault AddressSize 0)) t)) (pick off (ended (fault Translation 0)) (pick beyond (ended (fault AddressSize 0)) t) .end)
@@ -131,11 +135,11 @@ locate-read r read a {at} {l} q = subst (ReadOnce (locate r read a)) q (once r r
     picked false true t h = tt
     picked false false t h = h
 
-    once : (r : Regime) (read : ℕ → Word) (a : ℕ) → ReadOnce (locate r read a) (locate r read a .end)
+    once : (r : Regime) (read : ℕ → Word) (a : ℕ) → ReadOnce (lookup r read a) (lookup r read a .end)
     once r read a =
         let range = rangeOf r a in
         picked (range .disabled || outside (range .tsz) a) (leb (outputLimit (r .output)) (range .root .0))
-        (heeded (range .hpd) (descend (contextOf r a) read (suc (firstLeft pageBits (range .tsz))) noTables (range .root .0))) (read-once (contextOf r a) read (range .hpd) (firstLeft pageBits (range .tsz)) noTables (range .root .0))
+        (descend (contextOf r a) read (suc (firstLeft pageBits (range .tsz))) noTables (range .root .0)) (read-once (contextOf r a) read (firstLeft pageBits (range .tsz)) noTables (range .root .0))
 
 -- ---- a leaf that is reached
 
@@ -212,28 +216,28 @@ heeded-backed pool base hpd (fault kind level) g = g
 heeded-backed pool base hpd (leaf a l) g = (g .0, pick-both (λ (s : ℕ). s < 16) hpd 0 (l .tables) (lit< tt) (g .1), g .2)
 
 pub locate-good : (r : Regime) (read : ℕ → Word) (a : ℕ) → Sized r → rangeOf r a .root .0 % 8 ≡ 0 → Good (contextOf r a) read (locate r read a .end)
-unfolding locate
+unfolding lookup locate
 locate-good r read a z e =
     let range = rangeOf r a in
     let c = contextOf r a in
-    let deep = heeded (range .hpd) (descend c read (suc (firstLeft pageBits (range .tsz))) noTables (range .root .0)) in
+    let deep = descend c read (suc (firstLeft pageBits (range .tsz))) noTables (range .root .0) in
     let good : Trace → Type 0 = λ t. Good c read (t .end) in
     let beyond = leb (outputLimit (r .output)) (range .root .0) in
-    pick-both good (range .disabled || outside (range .tsz) a) (ended (fault Translation 0)) (pick beyond (ended (fault AddressSize 0)) deep) tt
+    heeded-good c read (range .hpd) (lookup r read a .end)
+    (pick-both good (range .disabled || outside (range .tsz) a) (ended (fault Translation 0)) (pick beyond (ended (fault AddressSize 0)) deep) tt
     (pick-both good beyond (ended (fault AddressSize 0)) deep tt
-    (heeded-good c read (range .hpd) (descend c read (suc (firstLeft pageBits (range .tsz))) noTables (range .root .0) .end)
     (descend-good c read (context-paged r a) (suc (firstLeft pageBits (range .tsz))) noTables (range .root .0) (suc-le-suc (first-le pageBits (range .tsz) paged (range-least r a z))) (lit< tt) e)))
 
 pub locate-backed : (r : Regime) (pool : List ℕ) (base a : ℕ) → Sized r → Backed pool base (locate r (fetched pool base) a .end)
-unfolding locate
+unfolding lookup locate
 locate-backed r pool base a z =
     let range = rangeOf r a in
-    let deep = heeded (range .hpd) (descend (contextOf r a) (fetched pool base) (suc (firstLeft pageBits (range .tsz))) noTables (range .root .0)) in
+    let deep = descend (contextOf r a) (fetched pool base) (suc (firstLeft pageBits (range .tsz))) noTables (range .root .0) in
     let backed : Trace → Type 0 = λ t. Backed pool base (t .end) in
     let beyond = leb (outputLimit (r .output)) (range .root .0) in
-    pick-both backed (range .disabled || outside (range .tsz) a) (ended (fault Translation 0)) (pick beyond (ended (fault AddressSize 0)) deep) (lit≤ tt)
+    heeded-backed pool base (range .hpd) (lookup r (fetched pool base) a .end)
+    (pick-both backed (range .disabled || outside (range .tsz) a) (ended (fault Translation 0)) (pick beyond (ended (fault AddressSize 0)) deep) (lit≤ tt)
     (pick-both backed beyond (ended (fault AddressSize 0)) deep (lit≤ tt)
-    (heeded-backed pool base (range .hpd) (descend (contextOf r a) (fetched pool base) (suc (firstLeft pageBits (range .tsz))) noTables (range .root .0) .end)
     (descend-backed (contextOf r a) pool base (suc (firstLeft pageBits (range .tsz))) noTables (range .root .0) (suc-le-suc (first-le pageBits (range .tsz) paged (range-least r a z))) (lit< tt))))
 
 -- ---- the reader over a pool

@@ -19,7 +19,7 @@ use Rattle.lookup.specs.declared.Next.{Next}
 use Rattle.lookup.specs.declared.Next.the-variants as next
 use Rattle.lookup.specs.declared.Context.{Context}
 use Rattle.lookup.specs.Trace.{End, fault, leaf, Trace, ended, heededEnd}
-use Rattle.lookup.specs.Steps.{decoded, onward, onWord, followed, entryAt, entered, descend, rangeOf, outside, contextOf, locate}
+use Rattle.lookup.specs.Steps.{decoded, onward, onWord, followed, entryAt, entered, descend, rangeOf, outside, contextOf, lookup, locate}
 use Rattle.lookup.proofs.Decoding.{is-table, aligned8}
 use Rattle.lookup.proofs.Reach.{entry-aligned, context-paged}
 
@@ -79,12 +79,13 @@ heeded-alike R hpd (leaves a left sum k) = leaves a left (pick hpd 0 sum) k
 pub locate-alike : (R : ℕ → ℕ → Type 0) (r : Regime) (a : ℕ)
     → ((left v w : ℕ) → R v w → decoded (contextOf r a .page) (contextOf r a .limit .0) left w ≡ decoded (contextOf r a .page) (contextOf r a .limit .0) left v)
     → ((v w : ℕ) → R v w → tableBits w ≡ tableBits v) → (read read2 : ℕ → Word) → ((x : ℕ) → x % 8 ≡ 0 → AlikeWords R (read x) (read2 x)) → rangeOf r a .root .0 % 8 ≡ 0 → AlikeTraces R (locate r read a) (locate r read2 a)
-unfolding locate
+unfolding lookup locate
 locate-alike R r a unseen same read read2 alike e =
     let range = rangeOf r a in
+    let t =
     by (range .disabled || outside (range .tsz) a) (leb (outputLimit (r .output)) (range .root .0))
-    (let t = descend-alike R (contextOf r a) (context-paged r a) unseen same read read2 alike (suc (firstLeft pageBits (range .tsz))) noTables (range .root .0) e in
-    record { visited = t .visited; ends = heeded-alike R (range .hpd) (t .ends) })
+    (descend-alike R (contextOf r a) (context-paged r a) unseen same read read2 alike (suc (firstLeft pageBits (range .tsz))) noTables (range .root .0) e) in
+    record { visited = t .visited; ends = heeded-alike R (range .hpd) (t .ends) }
   where
     by : {t u : Trace} (off beyond : Bool) → AlikeTraces R t u
         → AlikeTraces R (pick off (ended (fault Translation 0)) (pick beyond (ended (fault AddressSize 0)) t)) (pick off (ended (fault Translation 0)) (pick beyond (ended (fault AddressSize 0)) u))

@@ -20,8 +20,8 @@ use Rattle.lookup.specs.declared.Word.the-variants.{Value, Unreachable}
 use Rattle.lookup.specs.declared.Next.{Next}
 use Rattle.lookup.specs.declared.Next.the-variants as next
 use Rattle.lookup.specs.declared.Context.{Context}
-use Rattle.lookup.specs.Trace.{End, fault, leaf, Trace, ended, heededEnd, heeded}
-use Rattle.lookup.specs.Steps.{decoded, onward, onWord, followed, entryAt, entered, descend, rangeOf, outside, contextOf, locate}
+use Rattle.lookup.specs.Trace.{End, fault, leaf, Trace, ended, heededEnd}
+use Rattle.lookup.specs.Steps.{decoded, onward, onWord, followed, entryAt, entered, descend, rangeOf, outside, contextOf, lookup, locate}
 
 -- a table's bits join the sum
 abbrev pub withWord : ℕ → Word → ℕ
@@ -75,15 +75,16 @@ module _ (read : ℕ → Word) where
   heeded-sum hpd visited (leaf a l) h = ap (pick hpd 0) h
 
   locate-sums : (r : Regime) (a : ℕ) → SumIs (rangeOf r a .hpd) noTables (locate r read a .visited) (locate r read a .end)
-  unfolding locate SumIs
+  unfolding lookup locate SumIs
   locate-sums r a =
       let range = rangeOf r a in
-      let t = descend (contextOf r a) read (suc (firstLeft pageBits (range .tsz))) noTables (range .root .0) in
-      by (range .disabled || outside (range .tsz) a) (leb (outputLimit (r .output)) (range .root .0)) (heeded (range .hpd) t)
-      (heeded-sum (range .hpd) (t .visited) (t .end) (descend-sum (contextOf r a) (suc (firstLeft pageBits (range .tsz))) noTables (range .root .0)))
+      heeded-sum (range .hpd) (lookup r read a .visited) (lookup r read a .end)
+      (by (range .disabled || outside (range .tsz) a) (leb (outputLimit (r .output)) (range .root .0))
+      (descend (contextOf r a) read (suc (firstLeft pageBits (range .tsz))) noTables (range .root .0))
+      (descend-sum (contextOf r a) (suc (firstLeft pageBits (range .tsz))) noTables (range .root .0)))
     where
-      by : (off beyond : Bool) (t : Trace) → SumIs (rangeOf r a .hpd) noTables (t .visited) (t .end)
-          → SumIs (rangeOf r a .hpd) noTables (pick off (ended (fault Translation 0)) (pick beyond (ended (fault AddressSize 0)) t) .visited)
+      by : (off beyond : Bool) (t : Trace) → SumIs false noTables (t .visited) (t .end)
+          → SumIs false noTables (pick off (ended (fault Translation 0)) (pick beyond (ended (fault AddressSize 0)) t) .visited)
           (pick off (ended (fault Translation 0)) (pick beyond (ended (fault AddressSize 0)) t) .end)
       by true beyond t h = tt
       by false true t h = tt

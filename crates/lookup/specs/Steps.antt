@@ -97,11 +97,16 @@ outside t a = not (eqb (a / 2 ^ (64 - t)) (pick (upper a) (2 ^ t - 1) 0))
 unfoldable pub contextOf : Regime → ℕ → Context
 contextOf r a = record { base = r .pool .address; limit = record { 0 = outputLimit (r .output) }; input = record { 0 = a % 2 ^ (64 - rangeOf r a .tsz) }; page = pageBits }
 
-unfoldable pub locate : Regime → (ℕ → Word) → ℕ → Trace
-locate r read a =
+-- steps 1 to 5, a leaf under the sum of all tables on the way
+unfoldable pub lookup : Regime → (ℕ → Word) → ℕ → Trace
+lookup r read a =
     pick (rangeOf r a .disabled || outside (rangeOf r a .tsz) a) (ended (fault Translation 0))
     (pick (leb (outputLimit (r .output)) (rangeOf r a .root .0)) (ended (fault AddressSize 0))
-    (heeded (rangeOf r a .hpd) (descend (contextOf r a) read (suc (firstLeft pageBits (rangeOf r a .tsz))) noTables (rangeOf r a .root .0))))
+    (descend (contextOf r a) read (suc (firstLeft pageBits (rangeOf r a .tsz))) noTables (rangeOf r a .root .0)))
+
+-- the same, the tables counting unless HPD of the address's range is on (RULES 6.11)
+unfoldable pub locate : Regime → (ℕ → Word) → ℕ → Trace
+locate r read a = heeded (rangeOf r a .hpd) (lookup r read a)
 
 -- what a walk can rely on where a table follows
 abbrev pub Sound : ℕ → Next → Type 0

@@ -8,7 +8,7 @@ use lib.Dec.{lit≤, lit<}
 use lib.Pow.{field as field-mod}
 use Rattle.descriptor.specs.Bits.{pick, bit, field, clearBit}
 use Rattle.descriptor.proofs.Tests.{and-true, or-none, differ}
-use Rattle.descriptor.proofs.BitLaws.{clear-above, clear-below, clear-bit, clear-other}
+use Rattle.descriptor.proofs.BitLaws.{clear-above, clear-bit, clear-other}
 use Rattle.vmsa.specs.Limits.{addressLimit, pageBits}
 use Rattle.geometry.specs.Geometry.{levelOf, shiftOf, span, cut}
 use Rattle.geometry.proofs.Geometry.{shift-least}
@@ -21,9 +21,10 @@ use Rattle.vmsa.specs.declared.Leaf.{Leaf}
 use Rattle.vmsa.specs.declared.FaultKind.{FaultKind}
 use Rattle.vmsa.specs.declared.FaultKind.the-variants.{AccessFlag, Alignment, Permission}
 use Rattle.lookup.proofs.Decoding.{cut-same}
-use Rattle.permission.specs.Permission.{attributeOf, writable, clean, user, uxn as uxnOf, pxn as pxnOf, mayRead, mayWrite, mayFetchWith, mayFetch, permitted, flagFails, alignmentFails, permissionFails}
+use Rattle.permission.specs.Permission.{attributeOf, writable, clean, user, uxn as uxnOf, pxn as pxnOf, flagFails, alignmentFails, permissionFails}
+use Rattle.permission.proofs.Effective.{permission-same}
 use Rattle.decision.specs.Decision.{Decision, flagDue, dirtyDue, updated, cacheable, outputOf, failing, passing, decision}
-use Rattle.rules.proofs.Updates.{updated-none, updated-af}
+use Rattle.rules.proofs.Updates.{updated-none, updated-af, index-clear}
 use Rattle.tlb.specs.Replies.{updates}
 use Rattle.walk.specs.Walk.{revalued}
 use Rattle.tlb.specs.Ours.{judged, accessedIn, stamped}
@@ -123,7 +124,7 @@ module _ (v : ℕ) where
   uxn-cleared = clear-other 7 v 54 (λ e. omega arith)
 
   index-cleared : attributeIndex (clearAp2 v) ≡ attributeIndex v
-  index-cleared = sym (field-mod (clearAp2 v) 3 2) ∙ ap (λ (x : ℕ). x / 2 ^ 2) (clear-below 7 v 5 (lit≤ tt)) ∙ field-mod v 3 2
+  index-cleared = index-clear 7 v (lit≤ tt)
 
   shareability-cleared : shareability (clearAp2 v) ≡ shareability v
   shareability-cleared = ap (λ (x : ℕ). x % 2 ^ 2) (clear-above 7 v 8 (lit< tt))
@@ -180,21 +181,8 @@ module _ (r : Regime) (a : Access) (v left sum : ℕ) (e : ap2 v ≡ true) (g : 
   unfolding alignmentFails
   alignment-cleared = rw attribute-cleared
 
-  read-cleared : mayRead (a .el0) new ≡ mayRead (a .el0) old
-  unfolding mayRead
-  read-cleared = rw user-cleared
-
-  write-cleared : mayWrite r (a .el0) new ≡ mayWrite r (a .el0) old
-  unfolding mayWrite
-  write-cleared = rw (read-cleared, writable-cleared)
-
-  fetch-cleared : mayFetch r (a .el0) new ≡ mayFetch r (a .el0) old
-  unfolding mayFetch mayFetchWith
-  fetch-cleared = rw (writable-cleared, user-cleared, uxn-leaf, pxn-leaf)
-
   permission-cleared : permissionFails r a new ≡ permissionFails r a old
-  unfolding permissionFails permitted
-  permission-cleared = rw (fetch-cleared, write-cleared, read-cleared, attribute-cleared)
+  permission-cleared = permission-same r a new old writable-cleared user-cleared uxn-leaf pxn-leaf attribute-cleared
 
   due-cleared : flagDue r a new ≡ flagDue r a old
   unfolding flagDue new old

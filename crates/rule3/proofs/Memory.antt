@@ -35,7 +35,7 @@ use Rattle.lookup.proofs.Reach.{context-paged, locate-read}
 use Rattle.lookup.proofs.Readers.{AlikeWords, unreachable, values, AlikeEnds, faults, leaves, AlikeTraces, locate-alike}
 use Rattle.vmsa.proofs.Tables.{set-bits, clear-bits}
 use Rattle.decision.specs.Decision.{updated}
-use Rattle.walk.specs.Walk.{poolBytes, traced, revalued}
+use Rattle.walk.specs.Walk.{poolBytes, traced}
 use Rattle.walk.proofs.Parts.{with-put, part-with, length-part}
 use Rattle.walk.proofs.Ends.{Found, found, aligned-zero}
 use Rattle.rules.proofs.Updates.{updated-small}

@@ -3,6 +3,7 @@ pub mod StepLaws
 pub mod Outcomes
 pub mod Updates
 pub mod Tables
+pub mod Restricted
 pub mod Walks
 pub mod Rule1
 pub mod Rule2

@@ -43,6 +43,7 @@ use Rattle.rules.proofs.StepLaws.{Fault, firstFault, passes-none, fails
 use Rattle.rules.proofs.Outcomes.{endCacheable}
 use Rattle.rules.proofs.Updates.{updated-none, updated-other, updated-af, updated-ap2, updated-small, writes-asks, flag-due, dirty-due, probe-due, leaf-clear, flag-after, write-writable, dirty-after, none-dirty, none-asks, still-writable, leaf-kind}
 use Rattle.rules.proofs.Tables.{sum-four, sum-bit, bare-walk}
+use Rattle.rules.proofs.Restricted.{restricted-steps}
 use Rattle.rules.proofs.Walks.{readsOf, leafIn, told, updatedLeaf, passed-leaf, leaf-first, passed-result, failed-result, failed-bytes, success-taken, fault-taken, success-none, success-leaf, faultOf, fault-some, leaf-found, leaf-placed, success-told, success-bytes}
 
 module _ (r : Regime) (a : Access) (m : List ℕ) where
@@ -229,6 +230,7 @@ rule2 = record {
   marked = λ r a m s e h l. is-marked r a m s e l h;
   written = λ r a m s e h w l. is-written r a m s e l h w;
   sum = leaf-sums;
+  restricts = restricted-steps;
   bare = bare-walk;
   readOnly = is-read-only;
   below = λ r a m s e. output-small r a m s e (success-leaf r a m s e);

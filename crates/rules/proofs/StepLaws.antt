@@ -20,8 +20,8 @@ use Rattle.lookup.specs.declared.Word.{Word}
 use Rattle.lookup.specs.declared.Word.the-variants.{Value, Unreachable}
 use Rattle.lookup.specs.declared.Next.the-variants as next
 use Rattle.lookup.specs.declared.Context.{Context}
-use Rattle.lookup.specs.Trace.{End, fault, leaf, Trace, ended, heededEnd, heeded}
-use Rattle.lookup.specs.Steps.{invalid, isTable, addressIn, decoded, fetched, onward, onWord, followed, entryAt, entered, descend, rangeOf, outside, contextOf, locate}
+use Rattle.lookup.specs.Trace.{End, fault, leaf, Trace, ended, heededEnd}
+use Rattle.lookup.specs.Steps.{invalid, isTable, addressIn, decoded, fetched, onward, onWord, followed, entryAt, entered, descend, rangeOf, outside, contextOf, lookup, locate}
 use Rattle.walk.specs.Walk.{traced}
 use Rattle.rules.specs.Steps.{Step, step, AllPass, FirstFails, done, pass, here, later, leafSteps, leafUnder, descriptorSteps, entrySteps, levelSteps, walkSteps}
 
@@ -118,15 +118,15 @@ module _ (r : Regime) (a : Access) where
       level-steps (suc n) sum table = entry-steps (levelSteps r a c read (suc n)) (descend c read (suc n)) (suc n) sum table (λ v s t e. level-steps n s t)
 
   -- step 1, and what follows it
-  range-steps : (off beyond : Bool) (steps : List Step) (t : Trace) → firstFault steps ≡ endFault (t .end)
+  range-steps : (off beyond : Bool) (steps : List Step) (t : Trace) → firstFault steps ≡ endFault (heededEnd hpd (t .end))
       → firstFault (step off Translation 0 ∷ step beyond AddressSize 0 ∷ steps)
-      ≡ endFault (pick off (ended (fault Translation 0)) (pick beyond (ended (fault AddressSize 0)) t) .end)
+      ≡ endFault (heededEnd hpd (pick off (ended (fault Translation 0)) (pick beyond (ended (fault AddressSize 0)) t) .end))
   range-steps true beyond steps t h = refl
   range-steps false true steps t h = refl
   range-steps false false steps t h = h
 
   pub walk-steps : (pool : List ℕ) → firstFault (walkSteps r a pool) ≡ endFault (traced r pool (a .address .0) .end)
-  unfolding walkSteps traced locate hpd
+  unfolding walkSteps traced lookup locate hpd
   walk-steps pool =
       let range = rangeOf r (a .address .0) in
       let c = contextOf r (a .address .0) in
@@ -134,4 +134,4 @@ module _ (r : Regime) (a : Access) where
       let n = firstLeft pageBits (range .tsz) in
       let root = range .root .0 in
       range-steps (range .disabled || outside (range .tsz) (a .address .0)) (leb (outputLimit (r .output)) root) (levelSteps r a c read (suc n) noTables root)
-      (heeded (range .hpd) (descend c read (suc n) noTables root)) (level-steps c read n noTables root)
+      (descend c read (suc n) noTables root) (level-steps c read n noTables root)

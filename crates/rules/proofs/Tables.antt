@@ -19,10 +19,10 @@ use Rattle.checks.specs.declared.Checked.the-variants.{Accepted, Refused}
 use Rattle.checks.specs.Order.{walkCheck}
 use Rattle.lookup.specs.declared.Word.{Word}
 use Rattle.lookup.specs.declared.Word.the-variants.{Value, Unreachable}
-use Rattle.lookup.specs.Trace.{End, fault, leaf}
-use Rattle.lookup.specs.Steps.{rangeOf}
+use Rattle.lookup.specs.Trace.{End, fault, leaf, heededLeaf, heededEnd}
+use Rattle.lookup.specs.Steps.{rangeOf, lookup, locate}
 use Rattle.lookup.proofs.Sums.{withWord, sumAlong, locate-sum, below-sum, clear-sum}
-use Rattle.walk.specs.Walk.{poolBytes, traced, concluded, walkPool, checked, walk}
+use Rattle.walk.specs.Walk.{poolBytes, traced, walkAlong, walkPool, checked, walk}
 use Rattle.rules.specs.Tables.{traceOf, readerOf, TableAt, TablesOff, TablesClear, InSum, bareEnd, barePool, bareWalk}
 
 -- ---- a bit of the sum, and the tables that have it
@@ -119,15 +119,15 @@ module _ (r : Regime) (a : Access) (m : List ℕ) where
       by true = refl
       by false = refl
 
-  bare-end : (reads : ℕ) (e : End) → ((at : ℕ) (l : Leaf) → e ≡ leaf at l → l .tables ≡ noTables)
-      → concluded r a (poolBytes (r .pool) m) reads e ≡ concluded r a (poolBytes (r .pool) m) reads (bareEnd e)
-  bare-end reads (fault kind level) h = refl
-  bare-end reads (leaf at l) h =
-      ap (λ (n : ℕ). concluded r a (poolBytes (r .pool) m) reads (leaf at (record { value = l .value; left = l .left; tables = n }))) (h at l refl)
+  bare-end : (hpd : Bool) (e : End) → ((at : ℕ) (l : Leaf) → heededEnd hpd e ≡ leaf at l → l .tables ≡ noTables) → heededEnd hpd e ≡ bareEnd e
+  bare-end hpd (fault kind level) h = refl
+  bare-end hpd (leaf at l) h = ap (λ (n : ℕ). leaf at (record { value = l .value; left = l .left; tables = n })) (h at (heededLeaf hpd l) refl)
 
   bare-pool : TablesOff r a ⊎ TablesClear r a m → walkPool r a (poolBytes (r .pool) m) ≡ barePool r a (poolBytes (r .pool) m)
-  unfolding walkPool
-  bare-pool h = bare-end (length (traceOf r a m .visited)) (traceOf r a m .end) (empty-sum h)
+  unfolding walkPool traced locate
+  bare-pool h =
+      let t = lookup r (readerOf r m) (a .address .0) in
+      ap (λ (e : End). walkAlong r a (poolBytes (r .pool) m) (record { visited = t .visited; end = e })) (bare-end (rangeOf r (a .address .0) .hpd) (t .end) (empty-sum h))
 
   pub bare-walk : TablesOff r a ⊎ TablesClear r a m → walk r a m ≡ bareWalk r a m
   unfolding walk bareWalk

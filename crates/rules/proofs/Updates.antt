@@ -1,19 +1,20 @@
 -- What the updates of a leaf do to its bits, and what a leaf none of whose steps fails lets follow.
-use Prim.Native.Nat.{ℕ, _^_, _<_}
+use Prim.Native.Nat.{ℕ, _/_, _^_, _<_, _≤_}
 use mathlib.Core.Bool.{Bool, true, false, not, _&&_, _||_, and-false}
 use mathlib.Core.List.{[], _∷_}
 use mathlib.Core.Logic.{_⊎_, inl, inr, _≢_}
 use mathlib.Core.Option.{none, some}
-use mathlib.Core.Path.{_≡_, refl, sym, _∙_}
+use mathlib.Core.Path.{_≡_, refl, sym, ap, _∙_}
 use native.Mathlib.Omega.{arith}
 use lib.Dec.{lit<}
+use lib.Pow.{field as field-mod}
 use borrow.Author.Tests.{not-true, not-false}
-use Rattle.descriptor.specs.Bits.{bit, setBit}
+use Rattle.descriptor.specs.Bits.{bit, setBit, clearBit}
 use Rattle.descriptor.proofs.Tests.{differ, and-true, or-false}
-use Rattle.descriptor.proofs.BitLaws.{set-bit, clear-bit, set-other, clear-other, set-small, clear-small}
+use Rattle.descriptor.proofs.BitLaws.{set-below, clear-below, set-bit, clear-bit, set-other, clear-other, set-small, clear-small}
 use Rattle.geometry.specs.Geometry.{levelOf}
 use Rattle.vmsa.specs.Kinds.{isFetch, isProbe, asksWrite, writes}
-use Rattle.vmsa.specs.Fields.{af, ap2, dbm, noWriteBelow}
+use Rattle.vmsa.specs.Fields.{attributeIndex, af, ap2, dbm, noWriteBelow}
 use Rattle.vmsa.specs.declared.Regime.{Regime}
 use Rattle.vmsa.specs.declared.Access.{Access}
 use Rattle.vmsa.specs.declared.AccessKind.{AccessKind}
@@ -25,6 +26,14 @@ use Rattle.decision.specs.Decision.{flagDue, dirtyDue, updated}
 use Rattle.walk.specs.Walk.{revalued}
 use Rattle.rules.specs.Steps.{step, leafSteps}
 use Rattle.rules.proofs.StepLaws.{Fault, firstFault, no-fault}
+
+-- ---- the attribute index, where a bit above it is set or cleared
+
+pub index-set : (n v : ℕ) → 5 ≤ n → attributeIndex (setBit n v) ≡ attributeIndex v
+index-set n v h = sym (field-mod (setBit n v) 3 2) ∙ ap (λ (x : ℕ). x / 2 ^ 2) (set-below n v 5 h) ∙ field-mod v 3 2
+
+pub index-clear : (n v : ℕ) → 5 ≤ n → attributeIndex (clearBit n v) ≡ attributeIndex v
+index-clear n v h = sym (field-mod (clearBit n v) 3 2) ∙ ap (λ (x : ℕ). x / 2 ^ 2) (clear-below n v 5 h) ∙ field-mod v 3 2
 
 -- ---- the bits of an updated descriptor
 

@@ -24,8 +24,8 @@ use Rattle.checks.specs.Order.{walkCheck}
 use Rattle.lookup.specs.Trace.{leaf}
 use Rattle.permission.specs.Permission.{writable}
 use Rattle.walk.specs.Walk.{walk, poolBytes}
-use Rattle.rules.specs.Steps.{Step, AllPass, FirstFails, walkSteps}
-use Rattle.rules.specs.Tables.{traceOf, TablesOff, TablesClear, InSum, bareWalk}
+use Rattle.rules.specs.Steps.{Step, AllPass, FirstFails, leafSteps, walkSteps}
+use Rattle.rules.specs.Tables.{traceOf, TablesOff, TablesClear, InSum, bareWalk, restricted}
 
 -- the steps of an access
 abbrev pub stepsOf : Regime → Access → List ℕ → List Step
@@ -121,6 +121,8 @@ pub record Rule2 : Type 0 where
       → (l : LeafOf r a m) → (af (valueAfter l) ≡ true) × (ap2 (valueAfter l) ≡ false) × (writable r (leafAfter l) ≡ true)
   -- the bits of all tables on the way add up, unless HPD is on
   pub sum : (r : Regime) (a : Access) (m : List ℕ) (l : LeafOf r a m) → SumOf l
+  -- what the tables take away a leaf could say by itself: steps 6 to 8 are those of the leaf restricted so, under no tables
+  pub restricts : (r : Regime) (a : Access) (l : Leaf) → leafSteps r a l ≡ leafSteps r a (restricted l)
   -- where HPD is on, or no table on the way has one of these bits, answer and bytes are those of the rules in which they have no say
   pub bare : (r : Regime) (a : Access) (m : List ℕ) → TablesOff r a ⊎ TablesClear r a m → walk r a m ≡ bareWalk r a m
   -- with bit 62 in the tables' sum, a success asked for no write, and made nothing dirty

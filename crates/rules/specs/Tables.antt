@@ -1,19 +1,20 @@
--- The tables on the way (RULES 6.11): which bits are in their sum, and the walk in which they have no say.
+-- The tables on the way (RULES 6.11): which bits are in their sum, the walk in which they have no say, and what they take away of a leaf.
 use Prim.Native.Nat.{ℕ, suc, _<_}
-use mathlib.Core.Bool.{true, false}
+use mathlib.Core.Bool.{Bool, true, false}
 use mathlib.Core.List.{List}
 use mathlib.Core.Path.{_≡_}
 use lib.ListN.{length, getD}
-use Rattle.descriptor.specs.Bits.{bit}
-use Rattle.vmsa.specs.Fields.{tableBits, noTables}
+use Rattle.descriptor.specs.Bits.{pick, bit, setBit, clearBit}
+use Rattle.vmsa.specs.Fields.{tableBits, noTables, noWriteBelow, noUserBelow, uxnBelow, pxnBelow}
 use Rattle.vmsa.specs.declared.Regime.{Regime}
 use Rattle.vmsa.specs.declared.Access.{Access}
+use Rattle.vmsa.specs.declared.Leaf.{Leaf}
 use Rattle.checks.specs.Order.{walkCheck}
 use Rattle.lookup.specs.declared.Word.{Word}
 use Rattle.lookup.specs.declared.Word.the-variants.{Value}
 use Rattle.lookup.specs.Trace.{End, fault, leaf, Trace}
-use Rattle.lookup.specs.Steps.{fetched, rangeOf}
-use Rattle.walk.specs.Walk.{Outcome, poolBytes, concluded, traced, checked}
+use Rattle.lookup.specs.Steps.{fetched, rangeOf, lookup}
+use Rattle.walk.specs.Walk.{Outcome, poolBytes, traced, walkAlong, checked}
 
 -- the trace of an access: the list of descriptor addresses visited, and the end, a fault or a leaf; and what stands at a descriptor address of its pool
 abbrev pub traceOf : Regime → Access → List ℕ → Trace
@@ -37,13 +38,28 @@ TablesClear r a m = (i v : ℕ) → TableAt r a m i v → tableBits v ≡ 0
 abbrev pub InSum : ℕ → Regime → Access → List ℕ → Type 0
 InSum n r a m = (rangeOf r (a .address .0) .hpd ≡ false) × ((i : ℕ) × (v : ℕ) × TableAt r a m i v × (bit n v ≡ true))
 
--- the walk by the rules in which a table's bits have no say: steps 6 to 8 on a leaf whose sum is empty, and all else as in `walk`
+-- the walk by the rules in which a table's bits have no say: HPD is not asked, steps 6 to 8 are on a leaf whose sum is empty, and all else is as in `walk`
 abbrev pub bareEnd : End → End
 bareEnd (fault kind level) = fault kind level
 bareEnd (leaf at l) = leaf at (record { value = l .value; left = l .left; tables = noTables })
 
+abbrev pub bare : Trace → Trace
+bare t = record { visited = t .visited; end = bareEnd (t .end) }
+
 abbrev pub barePool : Regime → Access → List ℕ → Outcome
-barePool r a pool = concluded r a pool (length (traced r pool (a .address .0) .visited)) (bareEnd (traced r pool (a .address .0) .end))
+barePool r a pool = walkAlong r a pool (bare (lookup r (fetched pool (r .pool .address .0)) (a .address .0)))
 
 unfoldable pub bareWalk : Regime → Access → List ℕ → Outcome
 bareWalk r a m = checked (barePool r a) (r .pool) m (walkCheck (length m) r a)
+
+-- a leaf under no tables that says by itself what the tables above it take away: with bit 62 read-only (AP[2] 1 and DBM 0), with 61 AP[1] 0, with 60 UXN 1, with 59 PXN 1
+abbrev pub changedIf : Bool → (ℕ → ℕ) → ℕ → ℕ
+changedIf b change v = pick b (change v) v
+
+unfoldable pub restrictedValue : ℕ → ℕ → ℕ
+restrictedValue sum v =
+    changedIf (noWriteBelow sum) (λ (x : ℕ). clearBit 51 (setBit 7 x))
+    (changedIf (noUserBelow sum) (clearBit 6) (changedIf (uxnBelow sum) (setBit 54) (changedIf (pxnBelow sum) (setBit 53) v)))
+
+abbrev pub restricted : Leaf → Leaf
+restricted l = record { value = restrictedValue (l .tables) (l .value); left = l .left; tables = noTables }

@@ -17,7 +17,8 @@ use Rattle.vmsa.specs.declared.FaultKind.{FaultKind}
 use Rattle.vmsa.specs.declared.FaultKind.the-variants.{AccessFlag, Permission, Alignment}
 use Rattle.checks.specs.declared.Checked.{Checked}
 use Rattle.checks.specs.declared.Checked.the-variants.{Accepted, Refused}
-use Rattle.permission.specs.Permission.{attributeOf, writable, clean, user, uxn, pxn, mayRead, mayWrite, mayFetchWith, mayFetch, permitted, flagFails, alignmentFails, permissionFails}
+use Rattle.permission.specs.Permission.{attributeOf, writable, clean, user, uxn, pxn, flagFails, alignmentFails, permissionFails}
+use Rattle.permission.proofs.Effective.{permission-same}
 use Rattle.decision.specs.Decision.{flagDue, dirtyDue, cacheable, outputOf, failing, passing}
 use Rattle.tlb.specs.declared.Entry.{Entry as EntryStruct}
 use Rattle.tlb.specs.Walker.{empty, holds, heldIn, andThen, recall, accessBy, accessIn}
@@ -63,21 +64,9 @@ module _ (r : Regime) (a : Access) (l : Leaf) where
   unfolding pxn
   pxn-low = rw (low-pxn (l .tables))
 
-  read-low : mayRead (a .el0) (low l) ≡ mayRead (a .el0) l
-  unfolding mayRead
-  read-low = rw user-low
-
-  write-low : mayWrite r (a .el0) (low l) ≡ mayWrite r (a .el0) l
-  unfolding mayWrite
-  write-low = rw (read-low, writable-low)
-
-  fetch-low : mayFetch r (a .el0) (low l) ≡ mayFetch r (a .el0) l
-  unfolding mayFetch mayFetchWith
-  fetch-low = rw (writable-low, user-low, uxn-low, pxn-low)
-
   permission-low : permissionFails r a (low l) ≡ permissionFails r a l
-  unfolding permissionFails permitted attributeOf
-  permission-low = rw (fetch-low, write-low, read-low)
+  unfolding attributeOf
+  permission-low = permission-same r a (low l) l writable-low user-low uxn-low pxn-low refl
 
   dirty-low : dirtyDue r a (low l) ≡ dirtyDue r a l
   unfolding dirtyDue clean
