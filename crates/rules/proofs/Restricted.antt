@@ -4,7 +4,7 @@ use mathlib.Core.Bool.{Bool, true, false, not, _&&_, _||_}
 use mathlib.Core.Path.{_≡_, refl, ap, _∙_}
 use native.Mathlib.Omega.{arith}
 use lib.Dec.{lit≤}
-use Rattle.descriptor.specs.Bits.{pick, bit, setBit, clearBit}
+use Rattle.descriptor.specs.Bits.{pick, bit, setBit}
 use Rattle.descriptor.proofs.BitLaws.{set-bit, clear-bit, set-other, clear-other}
 use Rattle.vmsa.specs.Fields.{attributeIndex, ap1, ap2, af, dbm, pxn as pxnIn, uxn as uxnIn, noWriteBelow, noUserBelow, uxnBelow, pxnBelow}
 use Rattle.vmsa.specs.declared.Regime.{Regime}
@@ -13,7 +13,7 @@ use Rattle.vmsa.specs.declared.Leaf.{Leaf}
 use Rattle.permission.specs.Permission.{attributeOf, writable, user, uxn, pxn, flagFails, alignmentFails}
 use Rattle.permission.proofs.Effective.{permission-same}
 use Rattle.rules.specs.Steps.{leafSteps}
-use Rattle.rules.specs.Tables.{changedIf, restrictedValue, restricted}
+use Rattle.rules.specs.Tables.{readOnly, withoutUser, withUxn, withPxn, changedIf, restrictedValue, restricted}
 use Rattle.rules.proofs.Updates.{index-set, index-clear}
 
 -- ---- one change, where a test holds
@@ -30,79 +30,78 @@ settled T false change v c e = refl
 
 -- ---- the four, one after another
 
-abbrev readOnly : ℕ → ℕ
-readOnly v = clearBit 51 (setBit 7 v)
-
 module _ (sum v : ℕ) where
   abbrev first : ℕ
-  first = changedIf (pxnBelow sum) (setBit 53) v
+  first = changedIf (pxnBelow sum) withPxn v
 
   abbrev second : ℕ
-  second = changedIf (uxnBelow sum) (setBit 54) first
+  second = changedIf (uxnBelow sum) withUxn first
 
   abbrev third : ℕ
-  third = changedIf (noUserBelow sum) (clearBit 6) second
+  third = changedIf (noUserBelow sum) withoutUser second
 
-  -- a part of the value that none of them touches
-  untouched : {A : Type 0} (T : ℕ → A) → ((x : ℕ) → T (setBit 53 x) ≡ T x) → ((x : ℕ) → T (setBit 54 x) ≡ T x) → ((x : ℕ) → T (clearBit 6 x) ≡ T x) → ((x : ℕ) → T (readOnly x) ≡ T x)
-      → T (restrictedValue sum v) ≡ T v
-  unfolding restrictedValue
-  untouched T p x u w =
-      left T (noWriteBelow sum) readOnly third (w third) ∙ left T (noUserBelow sum) (clearBit 6) second (u second) ∙ left T (uxnBelow sum) (setBit 54) first (x first) ∙ left T (pxnBelow sum) (setBit 53) v (p v)
+  -- a part of the value that the first, the first two, and all four leave
+  past-first : {A : Type 0} (T : ℕ → A) → ((x : ℕ) → T (withPxn x) ≡ T x) → T first ≡ T v
+  past-first T p = left T (pxnBelow sum) withPxn v (p v)
+
+  past-second : {A : Type 0} (T : ℕ → A) → ((x : ℕ) → T (withPxn x) ≡ T x) → ((x : ℕ) → T (withUxn x) ≡ T x) → T second ≡ T v
+  past-second T p u = left T (uxnBelow sum) withUxn first (u first) ∙ past-first T p
+
+  past-third : {A : Type 0} (T : ℕ → A) → ((x : ℕ) → T (withPxn x) ≡ T x) → ((x : ℕ) → T (withUxn x) ≡ T x) → ((x : ℕ) → T (withoutUser x) ≡ T x) → T third ≡ T v
+  past-third T p u n = left T (noUserBelow sum) withoutUser second (n second) ∙ past-second T p u
 
   -- a bit that readOnly leaves
-  past : (n x : ℕ) → (n ≡ 51 → ⊥) → (n ≡ 7 → ⊥) → bit n (readOnly x) ≡ bit n x
-  past n x h k = clear-other 51 (setBit 7 x) n h ∙ set-other 7 x n k
+  past-last : (n : ℕ) → (n ≡ 51 → ⊥) → (n ≡ 7 → ⊥) → bit n (changedIf (noWriteBelow sum) readOnly third) ≡ bit n third
+  past-last n h k = left (bit n) (noWriteBelow sum) readOnly third (clear-other 51 (setBit 7 third) n h ∙ set-other 7 third n k)
 
   index-kept : attributeIndex (restrictedValue sum v) ≡ attributeIndex v
+  unfolding restrictedValue
   index-kept =
-      untouched attributeIndex (λ x. index-set 53 x (lit≤ tt)) (λ x. index-set 54 x (lit≤ tt)) (λ x. index-clear 6 x (lit≤ tt))
-      (λ x. index-clear 51 (setBit 7 x) (lit≤ tt) ∙ index-set 7 x (lit≤ tt))
+      left attributeIndex (noWriteBelow sum) readOnly third (index-clear 51 (setBit 7 third) (lit≤ tt) ∙ index-set 7 third (lit≤ tt))
+      ∙ past-third attributeIndex (λ x. index-set _ x (lit≤ tt)) (λ x. index-set _ x (lit≤ tt)) (λ x. index-clear _ x (lit≤ tt))
 
   af-kept : af (restrictedValue sum v) ≡ af v
-  af-kept = untouched af (λ x. set-other 53 x 10 (λ e. omega arith)) (λ x. set-other 54 x 10 (λ e. omega arith)) (λ x. clear-other 6 x 10 (λ e. omega arith)) (λ x. past 10 x (λ e. omega arith) (λ e. omega arith))
+  unfolding restrictedValue
+  af-kept =
+      past-last 10 (λ e. omega arith) (λ e. omega arith)
+      ∙ past-third af (λ x. set-other _ x 10 (λ e. omega arith)) (λ x. set-other _ x 10 (λ e. omega arith)) (λ x. clear-other _ x 10 (λ e. omega arith))
 
   ap2-settled : ap2 (restrictedValue sum v) ≡ pick (noWriteBelow sum) true (ap2 v)
   unfolding restrictedValue
   ap2-settled =
-      settled ap2 (noWriteBelow sum) readOnly third true (clear-other 51 (setBit 7 third) 7 (λ e. omega arith) ∙ set-bit 7 third)
+      settled ap2 (noWriteBelow sum) readOnly third true (clear-other _ (setBit 7 third) 7 (λ e. omega arith) ∙ set-bit 7 third)
       ∙ ap (pick (noWriteBelow sum) true)
-      (left ap2 (noUserBelow sum) (clearBit 6) second (clear-other 6 second 7 (λ e. omega arith))
-      ∙ left ap2 (uxnBelow sum) (setBit 54) first (set-other 54 first 7 (λ e. omega arith))
-      ∙ left ap2 (pxnBelow sum) (setBit 53) v (set-other 53 v 7 (λ e. omega arith)))
+      (past-third ap2 (λ x. set-other _ x 7 (λ e. omega arith)) (λ x. set-other _ x 7 (λ e. omega arith)) (λ x. clear-other _ x 7 (λ e. omega arith)))
 
   dbm-settled : dbm (restrictedValue sum v) ≡ pick (noWriteBelow sum) false (dbm v)
   unfolding restrictedValue
   dbm-settled =
       settled dbm (noWriteBelow sum) readOnly third false (clear-bit 51 (setBit 7 third))
       ∙ ap (pick (noWriteBelow sum) false)
-      (left dbm (noUserBelow sum) (clearBit 6) second (clear-other 6 second 51 (λ e. omega arith))
-      ∙ left dbm (uxnBelow sum) (setBit 54) first (set-other 54 first 51 (λ e. omega arith))
-      ∙ left dbm (pxnBelow sum) (setBit 53) v (set-other 53 v 51 (λ e. omega arith)))
+      (past-third dbm (λ x. set-other _ x 51 (λ e. omega arith)) (λ x. set-other _ x 51 (λ e. omega arith)) (λ x. clear-other _ x 51 (λ e. omega arith)))
 
   ap1-settled : ap1 (restrictedValue sum v) ≡ pick (noUserBelow sum) false (ap1 v)
   unfolding restrictedValue
   ap1-settled =
-      left ap1 (noWriteBelow sum) readOnly third (past 6 third (λ e. omega arith) (λ e. omega arith))
-      ∙ settled ap1 (noUserBelow sum) (clearBit 6) second false (clear-bit 6 second)
-      ∙ ap (pick (noUserBelow sum) false)
-      (left ap1 (uxnBelow sum) (setBit 54) first (set-other 54 first 6 (λ e. omega arith)) ∙ left ap1 (pxnBelow sum) (setBit 53) v (set-other 53 v 6 (λ e. omega arith)))
+      past-last 6 (λ e. omega arith) (λ e. omega arith)
+      ∙ settled ap1 (noUserBelow sum) withoutUser second false (clear-bit 6 second)
+      ∙ ap (pick (noUserBelow sum) false) (past-second ap1 (λ x. set-other _ x 6 (λ e. omega arith)) (λ x. set-other _ x 6 (λ e. omega arith)))
 
   uxn-settled : uxnIn (restrictedValue sum v) ≡ pick (uxnBelow sum) true (uxnIn v)
   unfolding restrictedValue
   uxn-settled =
-      left uxnIn (noWriteBelow sum) readOnly third (past 54 third (λ e. omega arith) (λ e. omega arith))
-      ∙ left uxnIn (noUserBelow sum) (clearBit 6) second (clear-other 6 second 54 (λ e. omega arith))
-      ∙ settled uxnIn (uxnBelow sum) (setBit 54) first true (set-bit 54 first)
-      ∙ ap (pick (uxnBelow sum) true) (left uxnIn (pxnBelow sum) (setBit 53) v (set-other 53 v 54 (λ e. omega arith)))
+      past-last 54 (λ e. omega arith) (λ e. omega arith)
+      ∙ left uxnIn (noUserBelow sum) withoutUser second (clear-other _ second 54 (λ e. omega arith))
+      ∙ settled uxnIn (uxnBelow sum) withUxn first true (set-bit 54 first)
+      ∙ ap (pick (uxnBelow sum) true) (past-first uxnIn (λ x. set-other _ x 54 (λ e. omega arith)))
 
   pxn-settled : pxnIn (restrictedValue sum v) ≡ pick (pxnBelow sum) true (pxnIn v)
   unfolding restrictedValue
   pxn-settled =
-      left pxnIn (noWriteBelow sum) readOnly third (past 53 third (λ e. omega arith) (λ e. omega arith))
-      ∙ left pxnIn (noUserBelow sum) (clearBit 6) second (clear-other 6 second 53 (λ e. omega arith))
-      ∙ left pxnIn (uxnBelow sum) (setBit 54) first (set-other 54 first 53 (λ e. omega arith))
-      ∙ settled pxnIn (pxnBelow sum) (setBit 53) v true (set-bit 53 v)
+      past-last 53 (λ e. omega arith) (λ e. omega arith)
+      ∙ left pxnIn (noUserBelow sum) withoutUser second (clear-other _ second 53 (λ e. omega arith))
+      ∙ left pxnIn (uxnBelow sum) withUxn first (set-other _ first 53 (λ e. omega arith))
+      ∙ settled pxnIn (pxnBelow sum) withPxn v true (set-bit 53 v)
 
 -- ---- the tests of steps 6 to 8
 

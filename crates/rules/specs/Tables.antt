@@ -52,14 +52,28 @@ barePool r a pool = walkAlong r a pool (bare (lookup r (fetched pool (r .pool .a
 unfoldable pub bareWalk : Regime → Access → List ℕ → Outcome
 bareWalk r a m = checked (barePool r a) (r .pool) m (walkCheck (length m) r a)
 
--- a leaf under no tables that says by itself what the tables above it take away: with bit 62 read-only (AP[2] 1 and DBM 0), with 61 AP[1] 0, with 60 UXN 1, with 59 PXN 1
+-- ---- what the tables take away, in bits of a leaf (RULES 7.3)
+
+-- AP[2] 1 and DBM 0; AP[1] 0; UXN 1; PXN 1
+abbrev pub readOnly : ℕ → ℕ
+readOnly v = clearBit 51 (setBit 7 v)
+
+abbrev pub withoutUser : ℕ → ℕ
+withoutUser v = clearBit 6 v
+
+abbrev pub withUxn : ℕ → ℕ
+withUxn v = setBit 54 v
+
+abbrev pub withPxn : ℕ → ℕ
+withPxn v = setBit 53 v
+
 abbrev pub changedIf : Bool → (ℕ → ℕ) → ℕ → ℕ
 changedIf b change v = pick b (change v) v
 
+-- a descriptor that says by itself what a sum takes away, and a leaf, under no tables, that says what its tables do
 unfoldable pub restrictedValue : ℕ → ℕ → ℕ
 restrictedValue sum v =
-    changedIf (noWriteBelow sum) (λ (x : ℕ). clearBit 51 (setBit 7 x))
-    (changedIf (noUserBelow sum) (clearBit 6) (changedIf (uxnBelow sum) (setBit 54) (changedIf (pxnBelow sum) (setBit 53) v)))
+    changedIf (noWriteBelow sum) readOnly (changedIf (noUserBelow sum) withoutUser (changedIf (uxnBelow sum) withUxn (changedIf (pxnBelow sum) withPxn v)))
 
 abbrev pub restricted : Leaf → Leaf
 restricted l = record { value = restrictedValue (l .tables) (l .value); left = l .left; tables = noTables }
