@@ -210,16 +210,20 @@ fn p9_reserved() {
     assert_eq!(fault(&walk), (7, 3, false, 4));
 }
 
+/// P10's read, which is not aligned to its size.
+fn misaligned() -> Access {
+    Access {
+        address: 0x40_3ABD,
+        size: 2,
+        ..access(Kind::Read)
+    }
+}
+
 #[test]
 fn p10_alignment() {
     let (mut memory, mut regime) = start();
     regime.attributes[0] = 0x00;
-    let misaligned = Access {
-        address: 0x40_3ABD,
-        size: 2,
-        ..access(Kind::Read)
-    };
-    let walk = go(&mut memory, &regime, &misaligned);
+    let walk = go(&mut memory, &regime, &misaligned());
     assert_eq!(fault(&walk), (33, 3, false, 4));
     assert_eq!(read_descriptor(&memory, LEAF_OFFSET), LEAF);
 }

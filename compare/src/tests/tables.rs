@@ -1,7 +1,7 @@
 //! The bits with which tables take permissions away (RULES 6.11), worked by
 //! hand from the numbers of the worked cases (RULES 12).
 
-use super::{access, fault, go, start, success, LEAF, LEAF_OFFSET, POOL};
+use super::{access, fault, go, misaligned, start, success, LEAF, LEAF_OFFSET, POOL};
 use crate::boundary::plain_answer;
 use crate::promises::{self, Expect};
 use crate::reference::{
@@ -139,12 +139,7 @@ fn an_alignment_fault_comes_before_the_tables() {
     let (mut memory, mut regime) = start();
     regime.attributes[0] = 0x00;
     turn(&mut memory, TABLES[2], AP_TABLE_0);
-    let misaligned = Access {
-        address: 0x40_3ABD,
-        size: 2,
-        ..access(Kind::Read)
-    };
-    let walk = go(&mut memory, &regime, &misaligned);
+    let walk = go(&mut memory, &regime, &misaligned());
     assert_eq!(fault(&walk), (33, 3, false, 4));
 }
 

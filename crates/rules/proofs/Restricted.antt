@@ -13,15 +13,15 @@ use Rattle.vmsa.specs.declared.Leaf.{Leaf}
 use Rattle.permission.specs.Permission.{attributeOf, writable, user, uxn, pxn, flagFails, alignmentFails}
 use Rattle.permission.proofs.Effective.{permission-same}
 use Rattle.rules.specs.Steps.{leafSteps}
-use Rattle.rules.specs.Tables.{readOnly, withoutUser, withUxn, withPxn, changedIf, restrictedValue, restricted}
+use Rattle.rules.specs.Tables.{withoutWrite, withoutUser, withUxn, withPxn, changedIf, restrictedValue, restricted}
 use Rattle.rules.proofs.Updates.{index-set, index-clear}
 
 -- ---- one change, where a test holds
 
 -- what it leaves
-left : {A : Type 0} (T : ℕ → A) (b : Bool) (change : ℕ → ℕ) (v : ℕ) → T (change v) ≡ T v → T (changedIf b change v) ≡ T v
-left T true change v e = e
-left T false change v e = refl
+unchanged : {A : Type 0} (T : ℕ → A) (b : Bool) (change : ℕ → ℕ) (v : ℕ) → T (change v) ≡ T v → T (changedIf b change v) ≡ T v
+unchanged T true change v e = e
+unchanged T false change v e = refl
 
 -- what it settles
 settled : (T : ℕ → Bool) (b : Bool) (change : ℕ → ℕ) (v : ℕ) (c : Bool) → T (change v) ≡ c → T (changedIf b change v) ≡ pick b c (T v)
@@ -40,24 +40,24 @@ module _ (sum v : ℕ) where
   abbrev third : ℕ
   third = changedIf (noUserBelow sum) withoutUser second
 
-  -- a part of the value that the first, the first two, and all four leave
+  -- a part of the value that the first, the first two and the first three leave
   past-first : {A : Type 0} (T : ℕ → A) → ((x : ℕ) → T (withPxn x) ≡ T x) → T first ≡ T v
-  past-first T p = left T (pxnBelow sum) withPxn v (p v)
+  past-first T p = unchanged T (pxnBelow sum) withPxn v (p v)
 
   past-second : {A : Type 0} (T : ℕ → A) → ((x : ℕ) → T (withPxn x) ≡ T x) → ((x : ℕ) → T (withUxn x) ≡ T x) → T second ≡ T v
-  past-second T p u = left T (uxnBelow sum) withUxn first (u first) ∙ past-first T p
+  past-second T p u = unchanged T (uxnBelow sum) withUxn first (u first) ∙ past-first T p
 
   past-third : {A : Type 0} (T : ℕ → A) → ((x : ℕ) → T (withPxn x) ≡ T x) → ((x : ℕ) → T (withUxn x) ≡ T x) → ((x : ℕ) → T (withoutUser x) ≡ T x) → T third ≡ T v
-  past-third T p u n = left T (noUserBelow sum) withoutUser second (n second) ∙ past-second T p u
+  past-third T p u n = unchanged T (noUserBelow sum) withoutUser second (n second) ∙ past-second T p u
 
-  -- a bit that readOnly leaves
-  past-last : (n : ℕ) → (n ≡ 51 → ⊥) → (n ≡ 7 → ⊥) → bit n (changedIf (noWriteBelow sum) readOnly third) ≡ bit n third
-  past-last n h k = left (bit n) (noWriteBelow sum) readOnly third (clear-other 51 (setBit 7 third) n h ∙ set-other 7 third n k)
+  -- a bit that the last leaves
+  past-last : (n : ℕ) → (n ≡ 51 → ⊥) → (n ≡ 7 → ⊥) → bit n (changedIf (noWriteBelow sum) withoutWrite third) ≡ bit n third
+  past-last n h k = unchanged (bit n) (noWriteBelow sum) withoutWrite third (clear-other 51 (setBit 7 third) n h ∙ set-other 7 third n k)
 
   index-kept : attributeIndex (restrictedValue sum v) ≡ attributeIndex v
   unfolding restrictedValue
   index-kept =
-      left attributeIndex (noWriteBelow sum) readOnly third (index-clear 51 (setBit 7 third) (lit≤ tt) ∙ index-set 7 third (lit≤ tt))
+      unchanged attributeIndex (noWriteBelow sum) withoutWrite third (index-clear 51 (setBit 7 third) (lit≤ tt) ∙ index-set 7 third (lit≤ tt))
       ∙ past-third attributeIndex (λ x. index-set _ x (lit≤ tt)) (λ x. index-set _ x (lit≤ tt)) (λ x. index-clear _ x (lit≤ tt))
 
   af-kept : af (restrictedValue sum v) ≡ af v
@@ -69,14 +69,14 @@ module _ (sum v : ℕ) where
   ap2-settled : ap2 (restrictedValue sum v) ≡ pick (noWriteBelow sum) true (ap2 v)
   unfolding restrictedValue
   ap2-settled =
-      settled ap2 (noWriteBelow sum) readOnly third true (clear-other _ (setBit 7 third) 7 (λ e. omega arith) ∙ set-bit 7 third)
+      settled ap2 (noWriteBelow sum) withoutWrite third true (clear-other _ (setBit 7 third) 7 (λ e. omega arith) ∙ set-bit 7 third)
       ∙ ap (pick (noWriteBelow sum) true)
       (past-third ap2 (λ x. set-other _ x 7 (λ e. omega arith)) (λ x. set-other _ x 7 (λ e. omega arith)) (λ x. clear-other _ x 7 (λ e. omega arith)))
 
   dbm-settled : dbm (restrictedValue sum v) ≡ pick (noWriteBelow sum) false (dbm v)
   unfolding restrictedValue
   dbm-settled =
-      settled dbm (noWriteBelow sum) readOnly third false (clear-bit 51 (setBit 7 third))
+      settled dbm (noWriteBelow sum) withoutWrite third false (clear-bit 51 (setBit 7 third))
       ∙ ap (pick (noWriteBelow sum) false)
       (past-third dbm (λ x. set-other _ x 51 (λ e. omega arith)) (λ x. set-other _ x 51 (λ e. omega arith)) (λ x. clear-other _ x 51 (λ e. omega arith)))
 
@@ -91,7 +91,7 @@ module _ (sum v : ℕ) where
   unfolding restrictedValue
   uxn-settled =
       past-last 54 (λ e. omega arith) (λ e. omega arith)
-      ∙ left uxnIn (noUserBelow sum) withoutUser second (clear-other _ second 54 (λ e. omega arith))
+      ∙ unchanged uxnIn (noUserBelow sum) withoutUser second (clear-other _ second 54 (λ e. omega arith))
       ∙ settled uxnIn (uxnBelow sum) withUxn first true (set-bit 54 first)
       ∙ ap (pick (uxnBelow sum) true) (past-first uxnIn (λ x. set-other _ x 54 (λ e. omega arith)))
 
@@ -99,8 +99,8 @@ module _ (sum v : ℕ) where
   unfolding restrictedValue
   pxn-settled =
       past-last 53 (λ e. omega arith) (λ e. omega arith)
-      ∙ left pxnIn (noUserBelow sum) withoutUser second (clear-other _ second 53 (λ e. omega arith))
-      ∙ left pxnIn (uxnBelow sum) withUxn first (set-other _ first 53 (λ e. omega arith))
+      ∙ unchanged pxnIn (noUserBelow sum) withoutUser second (clear-other _ second 53 (λ e. omega arith))
+      ∙ unchanged pxnIn (uxnBelow sum) withUxn first (set-other _ first 53 (λ e. omega arith))
       ∙ settled pxnIn (pxnBelow sum) withPxn v true (set-bit 53 v)
 
 -- ---- the tests of steps 6 to 8

@@ -43,27 +43,30 @@ abbrev pub bareEnd : End → End
 bareEnd (fault kind level) = fault kind level
 bareEnd (leaf at l) = leaf at (record { value = l .value; left = l .left; tables = noTables })
 
-abbrev pub bare : Trace → Trace
-bare t = record { visited = t .visited; end = bareEnd (t .end) }
+abbrev pub bareTrace : Trace → Trace
+bareTrace t = record { visited = t .visited; end = bareEnd (t .end) }
 
 abbrev pub barePool : Regime → Access → List ℕ → Outcome
-barePool r a pool = walkAlong r a pool (bare (lookup r (fetched pool (r .pool .address .0)) (a .address .0)))
+barePool r a pool = walkAlong r a pool (bareTrace (lookup r (fetched pool (r .pool .address .0)) (a .address .0)))
 
 unfoldable pub bareWalk : Regime → Access → List ℕ → Outcome
 bareWalk r a m = checked (barePool r a) (r .pool) m (walkCheck (length m) r a)
 
 -- ---- what the tables take away, in bits of a leaf (RULES 7.3)
 
--- AP[2] 1 and DBM 0; AP[1] 0; UXN 1; PXN 1
-abbrev pub readOnly : ℕ → ℕ
-readOnly v = clearBit 51 (setBit 7 v)
+-- for bit 62: AP[2] 1 and DBM 0
+abbrev pub withoutWrite : ℕ → ℕ
+withoutWrite v = clearBit 51 (setBit 7 v)
 
+-- for bit 61: AP[1] 0
 abbrev pub withoutUser : ℕ → ℕ
 withoutUser v = clearBit 6 v
 
+-- for bit 60: UXN 1
 abbrev pub withUxn : ℕ → ℕ
 withUxn v = setBit 54 v
 
+-- for bit 59: PXN 1
 abbrev pub withPxn : ℕ → ℕ
 withPxn v = setBit 53 v
 
@@ -73,7 +76,7 @@ changedIf b change v = pick b (change v) v
 -- a descriptor that says by itself what a sum takes away, and a leaf, under no tables, that says what its tables do
 unfoldable pub restrictedValue : ℕ → ℕ → ℕ
 restrictedValue sum v =
-    changedIf (noWriteBelow sum) readOnly (changedIf (noUserBelow sum) withoutUser (changedIf (uxnBelow sum) withUxn (changedIf (pxnBelow sum) withPxn v)))
+    changedIf (noWriteBelow sum) withoutWrite (changedIf (noUserBelow sum) withoutUser (changedIf (uxnBelow sum) withUxn (changedIf (pxnBelow sum) withPxn v)))
 
 abbrev pub restricted : Leaf → Leaf
 restricted l = record { value = restrictedValue (l .tables) (l .value); left = l .left; tables = noTables }
