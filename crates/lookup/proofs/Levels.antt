@@ -20,7 +20,7 @@ use Rattle.lookup.specs.declared.Word.{Word}
 use Rattle.lookup.specs.declared.Word.the-variants.{Value, Unreachable}
 use Rattle.lookup.specs.declared.Next.the-variants as next
 use Rattle.lookup.specs.declared.Context.{Context}
-use Rattle.lookup.specs.Trace.{fault, Trace, ended, heeded}
+use Rattle.lookup.specs.Trace.{fault, Trace, ended, underHpd}
 use Rattle.lookup.specs.Steps.{isTable, decoded, followed, context, entryAt, entered, descend, rangeOf, outside, contextOf, lookup, locate}
 use Rattle.lookup.specs.Packing.{kindNumber, leafNumber, joined, packed}
 
@@ -72,7 +72,7 @@ module _ (r : Regime) (read : ℕ → Word) (a : ℕ) (range : Range) (e : range
   pub locate-go : (range .disabled || outside (range .tsz) a) ≡ false → (limit power left : ℕ) → limit ≡ outputLimit (r .output) → range .root .0 < limit
       → power ≡ 2 ^ (64 - range .tsz) → left ≡ firstLeft pageBits (range .tsz)
       → (c : Context) → c ≡ context (r .pool .address) (record { 0 = limit }) (record { 0 = a % power }) pageBits
-      → locate r read a ≡ heeded (range .hpd) (descend c read (suc left) noTables (range .root .0))
+      → locate r read a ≡ underHpd (range .hpd) (descend c read (suc left) noTables (range .root .0))
   unfolding lookup locate contextOf
   locate-go h limit power left el q ep ef c ec =
       let h2 : (rangeOf r a .disabled || outside (rangeOf r a .tsz) a) ≡ false = rw e at h in

@@ -10,14 +10,14 @@ use lib.ListN.{length}
 use Rattle.descriptor.specs.Bytes.{desc}
 use Rattle.descriptor.specs.Bits.{pick}
 use Rattle.geometry.specs.Geometry.{levelOf}
-use Rattle.vmsa.specs.Fields.{tableBits, noTables}
+use Rattle.vmsa.specs.Fields.{tableBits, sumCount, noTables}
 use Rattle.vmsa.proofs.Tables.{no-bits}
 use Rattle.vmsa.specs.declared.FaultKind.{FaultKind}
 use Rattle.vmsa.specs.declared.FaultKind.the-variants.{AddressSize, Translation, AccessFlag, Permission, ExternalAbort, Alignment}
 use Rattle.lookup.specs.declared.Ending.the-variants as ending
 use Rattle.lookup.specs.declared.Located.{Located}
 use Rattle.lookup.specs.declared.Context.{Context}
-use Rattle.lookup.specs.Trace.{End, fault, leaf, ended, heededEnd, heeded, shownEnd, shown}
+use Rattle.lookup.specs.Trace.{End, fault, leaf, ended, endUnderHpd, underHpd, shownEnd, shown}
 use Rattle.lookup.specs.Steps.{fetched, descend}
 use Rattle.lookup.specs.Packing.{kindNumber, kindNumbered, leafNumber, joined, packedEnd, packed, endLevel, Backed, Packs}
 use Rattle.lookup.proofs.Reach.{in-pool, descend-reads, descend-backed}
@@ -42,10 +42,10 @@ numberIn n = n / 4 % 8
 
 -- the tables' sum, and the leaf descriptor's address
 abbrev pub sumIn : ℕ → ℕ
-sumIn n = n / 4 / 8 % 16
+sumIn n = n / 4 / 8 % sumCount
 
 abbrev pub placeIn : ℕ → ℕ
-placeIn n = n / 4 / 8 / 16
+placeIn n = n / 4 / 8 / sumCount
 
 record Digits (n level number tables address : ℕ) : Type 0 where
   pub level-is : levelIn n ≡ level
@@ -53,7 +53,7 @@ record Digits (n level number tables address : ℕ) : Type 0 where
   pub tables-is : sumIn n ≡ tables
   pub address-is : placeIn n ≡ address
 
-digits : (n level number tables address : ℕ) → n ≡ joined level number tables address → level ≤ 3 → number ≤ 6 → tables < 16 → Digits n level number tables address
+digits : (n level number tables address : ℕ) → n ≡ joined level number tables address → level ≤ 3 → number ≤ 6 → tables < sumCount → Digits n level number tables address
 unfolding joined
 digits n level number tables address e l k t = record { level-is = omega arith; number-is = omega arith; tables-is = omega arith; address-is = omega arith }
 
@@ -95,14 +95,14 @@ module _ (pool : List ℕ) (base : ℕ) (hpd : Bool) (first n : ℕ) where
   }
 
   fault-by : (k : ℕ) (e : End) → n ≡ packedEnd e → k + first ≡ suc (endLevel e) → Backed pool base e → (numberIn n ≡ leafNumber → ⊥)
-      → shownEnd (readsFrom first (levelIn n)) (fault (kindNumbered (numberIn n)) (levelIn n)) ≡ shownEnd k (heededEnd hpd e)
+      → shownEnd (readsFrom first (levelIn n)) (fault (kindNumbered (numberIn n)) (levelIn n)) ≡ shownEnd k (endUnderHpd hpd e)
   fault-by k (fault kind level) q h w x =
       let d = digits n level (kindNumber kind) 0 0 q w (omega (arith, kind-back kind .0)) (lit< tt) in
       rw (d .level-is, d .number-is, kind-back kind .1, reads-from k first level h)
   fault-by k (leaf a l) q h w x = absurd (x (digits n (levelOf (l .left)) leafNumber (l .tables) a q (level-le (l .left)) (lit≤ tt) (w .1) .number-is))
 
   leaf-by : (k : ℕ) (e : End) → n ≡ packedEnd e → k + first ≡ suc (endLevel e) → Backed pool base e → numberIn n ≡ leafNumber
-      → (base ≤ placeIn n) × (placeIn n + 8 ≤ base + length pool) × (leafIn ≡ shownEnd k (heededEnd hpd e))
+      → (base ≤ placeIn n) × (placeIn n + 8 ≤ base + length pool) × (leafIn ≡ shownEnd k (endUnderHpd hpd e))
   leaf-by k (fault kind level) q h w x =
       absurd (let z = kind-back kind .0 in let d = digits n level (kindNumber kind) 0 0 q w (omega arith) (lit< tt) .number-is in omega arith)
   leaf-by k (leaf a l) q h w x =
@@ -123,10 +123,10 @@ module _ (pool : List ℕ) (base : ℕ) (hpd : Bool) (first n : ℕ) where
     pub first-most : first ≤ levelIn n + 1
     first-most = let e = level-by (p .trace .end) same (p .end) in let r = p .reads in omega arith
 
-    pub fault-unpacked : (numberIn n ≡ leafNumber → ⊥) → shown (readsFrom first (levelIn n)) (ended (fault (kindNumbered (numberIn n)) (levelIn n))) ≡ shown 0 (heeded hpd (p .trace))
+    pub fault-unpacked : (numberIn n ≡ leafNumber → ⊥) → shown (readsFrom first (levelIn n)) (ended (fault (kindNumbered (numberIn n)) (levelIn n))) ≡ shown 0 (underHpd hpd (p .trace))
     unfolding shown
     fault-unpacked x = rw (add-zero (readsFrom first (levelIn n)), zero-add (length (p .trace .visited))) (fault-by (length (p .trace .visited)) (p .trace .end) same (p .reads) (p .end) x)
 
-    pub leaf-unpacked : numberIn n ≡ leafNumber → (base ≤ placeIn n) × (placeIn n + 8 ≤ base + length pool) × (leafIn ≡ shown 0 (heeded hpd (p .trace)))
+    pub leaf-unpacked : numberIn n ≡ leafNumber → (base ≤ placeIn n) × (placeIn n + 8 ≤ base + length pool) × (leafIn ≡ shown 0 (underHpd hpd (p .trace)))
     unfolding shown
     leaf-unpacked x = rw (zero-add (length (p .trace .visited))) (leaf-by (length (p .trace .visited)) (p .trace .end) same (p .reads) (p .end) x)

@@ -15,7 +15,7 @@ use Rattle.vmsa.specs.declared.FaultKind.the-variants.{ExternalAbort, Translati
 use Rattle.vmsa.specs.Fields.{noTables}
 use Rattle.lookup.specs.declared.Word.{Word}
 use Rattle.lookup.specs.declared.Context.{Context}
-use Rattle.lookup.specs.Trace.{fault, Trace, ended, visit, heeded}
+use Rattle.lookup.specs.Trace.{fault, Trace, ended, visit, underHpd}
 use Rattle.lookup.specs.Steps.{onWord, followed, entryAt, entered, descend, upper, rangeOf, outside, contextOf, lookup, locate}
 
 -- a cut at bit n above the page bits sees the page alone
@@ -79,7 +79,7 @@ module _ (r : Regime) (a b : ℕ) (e : a / 4096 ≡ b / 4096) where
 
   opened : (read : ℕ → Word) (x : ℕ) (range : Range) → rangeOf r x ≡ range
       → locate r read x
-      ≡ heeded (range .hpd) (pick (range .disabled || outside (range .tsz) x) (ended (fault Translation 0))
+      ≡ underHpd (range .hpd) (pick (range .disabled || outside (range .tsz) x) (ended (fault Translation 0))
       (pick (leb (outputLimit (r .output)) (range .root .0)) (ended (fault AddressSize 0)) (descent range read x)))
   unfolding lookup locate contextOf descent
   opened read x range q = rw q

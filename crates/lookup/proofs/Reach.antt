@@ -12,7 +12,7 @@ use Rattle.descriptor.specs.Bytes.{desc}
 use Rattle.descriptor.specs.Bits.{pick}
 use Rattle.descriptor.proofs.Tests.{clash, and-true, pick-both}
 use Rattle.vmsa.specs.Limits.{pageBits, tszLeast, Sized}
-use Rattle.vmsa.specs.Fields.{noTables, withTable}
+use Rattle.vmsa.specs.Fields.{sumCount, noTables, withTable}
 use Rattle.vmsa.proofs.Tables.{sum-below}
 use Rattle.vmsa.specs.declared.Leaf.{Leaf}
 use Rattle.geometry.specs.Geometry.{levelOf, firstLeft, outputLimit, Paged}
@@ -26,7 +26,7 @@ use Rattle.lookup.specs.declared.Word.the-variants.{Value, Unreachable}
 use Rattle.lookup.specs.declared.Next.{Next}
 use Rattle.lookup.specs.declared.Next.the-variants as next
 use Rattle.lookup.specs.declared.Context.{Context}
-use Rattle.lookup.specs.Trace.{End, fault, leaf, Trace, ended, heededEnd}
+use Rattle.lookup.specs.Trace.{End, fault, leaf, Trace, ended, endUnderHpd}
 use Rattle.lookup.specs.Steps.{decoded, fetched, onward, onWord, followed, entryAt, entered, descend, upper, rangeOf, outside, contextOf, lookup, locate}
 use Rattle.lookup.specs.Packing.{endLevel, Backed}
 use Rattle.lookup.proofs.Decoding.{is-table, aligned8}
@@ -121,13 +121,13 @@ read-once c read n s t = by (onWord (ended (fault ExternalAbort (levelOf n))) (f
     by : (u : Trace) → ReadOnce (record { visited = entryAt c n t ∷ u .visited; end = u .end }) (u .end)
     by u = by-end (u .visited) (u .end)
 
-heeded-once : (hpd : Bool) (l : List ℕ) (e : End) → ReadOnce (record { visited = l; end = e }) e → ReadOnce (record { visited = l; end = heededEnd hpd e }) (heededEnd hpd e)
-heeded-once hpd l (fault kind level) h = tt
-heeded-once hpd l (leaf a x) h = h
+hpd-once : (hpd : Bool) (l : List ℕ) (e : End) → ReadOnce (record { visited = l; end = e }) e → ReadOnce (record { visited = l; end = endUnderHpd hpd e }) (endUnderHpd hpd e)
+hpd-once hpd l (fault kind level) h = tt
+hpd-once hpd l (leaf a x) h = h
 
 pub locate-read : (r : Regime) (read : ℕ → Word) (a : ℕ) {at : ℕ} {l : Leaf} → locate r read a .end ≡ leaf at l → 1 ≤ length (locate r read a .visited)
 unfolding lookup locate
-locate-read r read a {at} {l} q = subst (ReadOnce (locate r read a)) q (heeded-once (rangeOf r a .hpd) (lookup r read a .visited) (lookup r read a .end) (once r read a))
+locate-read r read a {at} {l} q = subst (ReadOnce (locate r read a)) q (hpd-once (rangeOf r a .hpd) (lookup r read a .visited) (lookup r read a .end) (once r read a))
   where
     picked : (off beyond : Bool) (t : Trace) → ReadOnce t (t .end)
         → ReadOnce (pick off (ended (fault Translation 0)) (pick beyond (ended (fault AddressSize 0)) t)) (pick off (ended (fault Translation 0)) (pick beyond (ended (fault AddressSize 0)) t) .end)
@@ -148,7 +148,7 @@ pub record Reached (c : Context) (read : ℕ → Word) (a : ℕ) (l : Leaf) : Ty
   pub value : read a ≡ Value (l .value)
   pub leads : decoded (c .page) (c .limit .0) (l .left) (l .value) ≡ next.Leaf
   pub low : l .left ≤ 3
-  pub few : l .tables < 16
+  pub few : l .tables < sumCount
   pub aligned : a % 8 ≡ 0
 
 abbrev pub Good : Context → (ℕ → Word) → End → Type 0
@@ -184,36 +184,36 @@ module _ (c : Context) (read : ℕ → Word) (S T : ℕ → Type 0) (E : End →
       (λ v q. onward-end (descend c read n) s n t v (omega arith) z e q (λ x u y f. descend-end n x u (omega arith) y f) (decoded (c .page) (c .limit .0) n v) refl)
       (read a) refl
 
-pub descend-good : (c : Context) (read : ℕ → Word) (g : Paged (c .page)) (n s t : ℕ) → n ≤ 4 → s < 16 → t % 8 ≡ 0 → Good c read (descend c read n s t .end)
+pub descend-good : (c : Context) (read : ℕ → Word) (g : Paged (c .page)) (n s t : ℕ) → n ≤ 4 → s < sumCount → t % 8 ≡ 0 → Good c read (descend c read n s t .end)
 descend-good c read g =
-    descend-end c read (λ s. s < 16) (λ t. t % 8 ≡ 0) (Good c read) (λ kind left h. tt)
+    descend-end c read (λ s. s < sumCount) (λ t. t % 8 ≡ 0) (Good c read) (λ kind left h. tt)
     (λ left v table d. aligned8 (c .page) (table .0) g (is-table (c .page) (c .limit .0) left v table d .aligned))
     sum-below (λ left sum t v h z e q d. record { value = q; leads = d; low = h; few = z; aligned = entry-aligned c left t e })
 
 -- a level is one of the four, and a leaf's value stands in the pool
-pub descend-backed : (c : Context) (pool : List ℕ) (base n s t : ℕ) → n ≤ 4 → s < 16 → Backed pool base (descend c (fetched pool base) n s t .end)
+pub descend-backed : (c : Context) (pool : List ℕ) (base n s t : ℕ) → n ≤ 4 → s < sumCount → Backed pool base (descend c (fetched pool base) n s t .end)
 unfolding levelOf
 descend-backed c pool base n s t h z =
-    descend-end c (fetched pool base) (λ s. s < 16) (λ t. Unit {0}) (Backed pool base) (λ kind left h. omega arith) (λ left v table d. tt) sum-below (λ left sum t v h z e q d. (h, z, q)) n s t h z tt
+    descend-end c (fetched pool base) (λ s. s < sumCount) (λ t. Unit {0}) (Backed pool base) (λ kind left h. omega arith) (λ left v table d. tt) sum-below (λ left sum t v h z e q d. (h, z, q)) n s t h z tt
 
 pub context-paged : (r : Regime) (a : ℕ) → Paged (contextOf r a .page)
 unfolding contextOf
 context-paged r a = paged
 
 -- what holds of a leaf under tables holds of it under none
-heeded-good : (c : Context) (read : ℕ → Word) (hpd : Bool) (e : End) → Good c read e → Good c read (heededEnd hpd e)
-heeded-good c read hpd (fault kind level) g = tt
-heeded-good c read hpd (leaf a l) g = record {
+hpd-good : (c : Context) (read : ℕ → Word) (hpd : Bool) (e : End) → Good c read e → Good c read (endUnderHpd hpd e)
+hpd-good c read hpd (fault kind level) g = tt
+hpd-good c read hpd (leaf a l) g = record {
   value = g .value;
   leads = g .leads;
   low = g .low;
-  few = pick-both (λ (s : ℕ). s < 16) hpd 0 (l .tables) (lit< tt) (g .few);
+  few = pick-both (λ (s : ℕ). s < sumCount) hpd 0 (l .tables) (lit< tt) (g .few);
   aligned = g .aligned;
 }
 
-heeded-backed : (pool : List ℕ) (base : ℕ) (hpd : Bool) (e : End) → Backed pool base e → Backed pool base (heededEnd hpd e)
-heeded-backed pool base hpd (fault kind level) g = g
-heeded-backed pool base hpd (leaf a l) g = (g .0, pick-both (λ (s : ℕ). s < 16) hpd 0 (l .tables) (lit< tt) (g .1), g .2)
+hpd-backed : (pool : List ℕ) (base : ℕ) (hpd : Bool) (e : End) → Backed pool base e → Backed pool base (endUnderHpd hpd e)
+hpd-backed pool base hpd (fault kind level) g = g
+hpd-backed pool base hpd (leaf a l) g = (g .0, pick-both (λ (s : ℕ). s < sumCount) hpd 0 (l .tables) (lit< tt) (g .1), g .2)
 
 pub locate-good : (r : Regime) (read : ℕ → Word) (a : ℕ) → Sized r → rangeOf r a .root .0 % 8 ≡ 0 → Good (contextOf r a) read (locate r read a .end)
 unfolding lookup locate
@@ -223,7 +223,7 @@ locate-good r read a z e =
     let deep = descend c read (suc (firstLeft pageBits (range .tsz))) noTables (range .root .0) in
     let good : Trace → Type 0 = λ t. Good c read (t .end) in
     let beyond = leb (outputLimit (r .output)) (range .root .0) in
-    heeded-good c read (range .hpd) (lookup r read a .end)
+    hpd-good c read (range .hpd) (lookup r read a .end)
     (pick-both good (range .disabled || outside (range .tsz) a) (ended (fault Translation 0)) (pick beyond (ended (fault AddressSize 0)) deep) tt
     (pick-both good beyond (ended (fault AddressSize 0)) deep tt
     (descend-good c read (context-paged r a) (suc (firstLeft pageBits (range .tsz))) noTables (range .root .0) (suc-le-suc (first-le pageBits (range .tsz) paged (range-least r a z))) (lit< tt) e)))
@@ -235,7 +235,7 @@ locate-backed r pool base a z =
     let deep = descend (contextOf r a) (fetched pool base) (suc (firstLeft pageBits (range .tsz))) noTables (range .root .0) in
     let backed : Trace → Type 0 = λ t. Backed pool base (t .end) in
     let beyond = leb (outputLimit (r .output)) (range .root .0) in
-    heeded-backed pool base (range .hpd) (lookup r (fetched pool base) a .end)
+    hpd-backed pool base (range .hpd) (lookup r (fetched pool base) a .end)
     (pick-both backed (range .disabled || outside (range .tsz) a) (ended (fault Translation 0)) (pick beyond (ended (fault AddressSize 0)) deep) (lit≤ tt)
     (pick-both backed beyond (ended (fault AddressSize 0)) deep (lit≤ tt)
     (descend-backed (contextOf r a) pool base (suc (firstLeft pageBits (range .tsz))) noTables (range .root .0) (suc-le-suc (first-le pageBits (range .tsz) paged (range-least r a z))) (lit< tt))))

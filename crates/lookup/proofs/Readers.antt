@@ -18,7 +18,7 @@ use Rattle.lookup.specs.declared.Word.the-variants.{Value, Unreachable}
 use Rattle.lookup.specs.declared.Next.{Next}
 use Rattle.lookup.specs.declared.Next.the-variants as next
 use Rattle.lookup.specs.declared.Context.{Context}
-use Rattle.lookup.specs.Trace.{End, fault, leaf, Trace, ended, heededEnd}
+use Rattle.lookup.specs.Trace.{End, fault, leaf, Trace, ended, endUnderHpd}
 use Rattle.lookup.specs.Steps.{decoded, onward, onWord, followed, entryAt, entered, descend, rangeOf, outside, contextOf, lookup, locate}
 use Rattle.lookup.proofs.Decoding.{is-table, aligned8}
 use Rattle.lookup.proofs.Reach.{entry-aligned, context-paged}
@@ -71,9 +71,9 @@ module _ (R : ℕ → ℕ → Type 0) (c : Context) (g : Paged (c .page))
       record { visited = ap (λ (l : List ℕ). a ∷ l) (w .visited); ends = w .ends }
 
 -- and so they do where the tables do not count
-heeded-alike : (R : ℕ → ℕ → Type 0) (hpd : Bool) {e f : End} → AlikeEnds R e f → AlikeEnds R (heededEnd hpd e) (heededEnd hpd f)
-heeded-alike R hpd (faults kind level) = faults kind level
-heeded-alike R hpd (leaves a left sum k) = leaves a left (pick hpd 0 sum) k
+hpd-alike : (R : ℕ → ℕ → Type 0) (hpd : Bool) {e f : End} → AlikeEnds R e f → AlikeEnds R (endUnderHpd hpd e) (endUnderHpd hpd f)
+hpd-alike R hpd (faults kind level) = faults kind level
+hpd-alike R hpd (leaves a left sum k) = leaves a left (pick hpd 0 sum) k
 
 -- from the root on, where the root's address is a multiple of 8
 pub locate-alike : (R : ℕ → ℕ → Type 0) (r : Regime) (a : ℕ)
@@ -85,7 +85,7 @@ locate-alike R r a unseen same read read2 alike e =
     let t =
     by (range .disabled || outside (range .tsz) a) (leb (outputLimit (r .output)) (range .root .0))
     (descend-alike R (contextOf r a) (context-paged r a) unseen same read read2 alike (suc (firstLeft pageBits (range .tsz))) noTables (range .root .0) e) in
-    record { visited = t .visited; ends = heeded-alike R (range .hpd) (t .ends) }
+    record { visited = t .visited; ends = hpd-alike R (range .hpd) (t .ends) }
   where
     by : {t u : Trace} (off beyond : Bool) → AlikeTraces R t u
         → AlikeTraces R (pick off (ended (fault Translation 0)) (pick beyond (ended (fault AddressSize 0)) t)) (pick off (ended (fault Translation 0)) (pick beyond (ended (fault AddressSize 0)) u))

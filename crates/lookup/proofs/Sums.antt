@@ -9,7 +9,7 @@ use lib.Dec.{leb}
 use lib.ListN.{length, getD}
 use Rattle.descriptor.specs.Bits.{pick}
 use Rattle.vmsa.specs.Limits.{pageBits}
-use Rattle.vmsa.specs.Fields.{tableBits, noTables, withTable}
+use Rattle.vmsa.specs.Fields.{tableBits, sumCount, noTables, withTable}
 use Rattle.geometry.specs.Geometry.{levelOf, firstLeft, outputLimit}
 use Rattle.vmsa.proofs.Tables.{sum-below}
 use Rattle.vmsa.specs.declared.Regime.{Regime}
@@ -20,7 +20,7 @@ use Rattle.lookup.specs.declared.Word.the-variants.{Value, Unreachable}
 use Rattle.lookup.specs.declared.Next.{Next}
 use Rattle.lookup.specs.declared.Next.the-variants as next
 use Rattle.lookup.specs.declared.Context.{Context}
-use Rattle.lookup.specs.Trace.{End, fault, leaf, Trace, ended, heededEnd}
+use Rattle.lookup.specs.Trace.{End, fault, leaf, Trace, ended, endUnderHpd}
 use Rattle.lookup.specs.Steps.{decoded, onward, onWord, followed, entryAt, entered, descend, rangeOf, outside, contextOf, lookup, locate}
 
 -- a table's bits join the sum
@@ -69,16 +69,16 @@ module _ (read : ℕ → Word) where
         by h Unreachable q = tt
 
   -- from the root on
-  heeded-sum : (hpd : Bool) (visited : List ℕ) (e : End) → SumIs false noTables visited e → SumIs hpd noTables visited (heededEnd hpd e)
+  hpd-sum : (hpd : Bool) (visited : List ℕ) (e : End) → SumIs false noTables visited e → SumIs hpd noTables visited (endUnderHpd hpd e)
   unfolding SumIs
-  heeded-sum hpd visited (fault kind level) h = tt
-  heeded-sum hpd visited (leaf a l) h = ap (pick hpd 0) h
+  hpd-sum hpd visited (fault kind level) h = tt
+  hpd-sum hpd visited (leaf a l) h = ap (pick hpd 0) h
 
   locate-sums : (r : Regime) (a : ℕ) → SumIs (rangeOf r a .hpd) noTables (locate r read a .visited) (locate r read a .end)
   unfolding lookup locate SumIs
   locate-sums r a =
       let range = rangeOf r a in
-      heeded-sum (range .hpd) (lookup r read a .visited) (lookup r read a .end)
+      hpd-sum (range .hpd) (lookup r read a .visited) (lookup r read a .end)
       (by (range .disabled || outside (range .tsz) a) (leb (outputLimit (r .output)) (range .root .0))
       (descend (contextOf r a) read (suc (firstLeft pageBits (range .tsz))) noTables (range .root .0))
       (descend-sum (contextOf r a) (suc (firstLeft pageBits (range .tsz))) noTables (range .root .0)))
@@ -95,11 +95,11 @@ module _ (read : ℕ → Word) where
   locate-sum r a at l q = subst (SumIs (rangeOf r a .hpd) noTables (locate r read a .visited)) q (locate-sums r a)
 
   -- the sum has four bits
-  below-word : (sum : ℕ) (w : Word) → sum < 16 → withWord sum w < 16
+  below-word : (sum : ℕ) (w : Word) → sum < sumCount → withWord sum w < sumCount
   below-word sum (Value v) h = sum-below sum v h
   below-word sum Unreachable h = h
 
-  pub below-sum : (visited : List ℕ) (sum : ℕ) → sum < 16 → sumAlong read sum visited < 16
+  pub below-sum : (visited : List ℕ) (sum : ℕ) → sum < sumCount → sumAlong read sum visited < sumCount
   below-sum [] sum h = h
   below-sum (last ∷ []) sum h = h
   below-sum (table ∷ next ∷ rest) sum h = below-sum (next ∷ rest) (withWord sum (read table)) (below-word sum (read table) h)

@@ -3,6 +3,7 @@ use Prim.Native.Nat.{ℕ, suc, _+_, _*_, _≤_, _<_}
 use mathlib.Core.List.{List, [], _∷_}
 use mathlib.Core.Path.{_≡_}
 use lib.ListN.{length, getD}
+use Rattle.vmsa.specs.Fields.{sumCount}
 use Rattle.geometry.specs.Geometry.{levelOf}
 use Rattle.vmsa.specs.declared.FaultKind.{FaultKind}
 use Rattle.vmsa.specs.declared.FaultKind.the-variants.{AddressSize, Translation, AccessFlag, Permission, ExternalAbort, Alignment}
@@ -26,9 +27,9 @@ kindNumbered n = getD (AddressSize ∷ Translation ∷ AccessFlag ∷ Permission
 abbrev pub leafNumber : ℕ
 leafNumber = 6
 
--- from the lowest digit up: the level (below 4), the number of the fault kind or of a leaf (below 8), the tables' sum (below 16), the leaf descriptor's address
+-- from the lowest digit up: the level (below 4), the number of the fault kind or of a leaf (below 8), the tables' sum (below sumCount), the leaf descriptor's address
 unfoldable pub joined : ℕ → ℕ → ℕ → ℕ → ℕ
-joined level number tables address = level + 4 * (number + 8 * (tables + 16 * address))
+joined level number tables address = level + 4 * (number + 8 * (tables + sumCount * address))
 
 -- the end of a trace in one number; a leaf's value is left out, and the reads follow from the level
 abbrev pub packedEnd : End → ℕ
@@ -46,7 +47,7 @@ endLevel (leaf a l) = levelOf (l .left)
 -- an end at one of the four levels; a leaf's sum has four bits, and its value stands at its address in the pool
 abbrev pub Backed : List ℕ → ℕ → End → Type 0
 Backed pool base (fault kind level) = level ≤ 3
-Backed pool base (leaf a l) = (l .left ≤ 3) × (l .tables < 16) × (fetched pool base a ≡ Value (l .value))
+Backed pool base (leaf a l) = (l .left ≤ 3) × (l .tables < sumCount) × (fetched pool base a ≡ Value (l .value))
 
 -- a lookup over the pool that the number n stands for: one descriptor was visited at each level, from the first on
 pub record Packs (pool : List ℕ) (base first n : ℕ) : Type 0 where

@@ -19,7 +19,7 @@ use Rattle.lookup.specs.declared.Word.the-variants.{Value, Unreachable}
 use Rattle.lookup.specs.declared.Next.{Next}
 use Rattle.lookup.specs.declared.Next.the-variants as next
 use Rattle.lookup.specs.declared.Context.{Context}
-use Rattle.lookup.specs.Trace.{fault, leaf, Trace, ended, visit, heeded}
+use Rattle.lookup.specs.Trace.{fault, leaf, Trace, ended, visit, underHpd}
 
 -- ---- steps 4 and 5: what a descriptor says at a level, for page bits p
 
@@ -106,7 +106,7 @@ lookup r read a =
 
 -- the same, the tables counting unless HPD of the address's range is on (RULES 6.11)
 unfoldable pub locate : Regime → (ℕ → Word) → ℕ → Trace
-locate r read a = heeded (rangeOf r a .hpd) (lookup r read a)
+locate r read a = underHpd (rangeOf r a .hpd) (lookup r read a)
 
 -- what a walk can rely on where a table follows
 abbrev pub Sound : ℕ → Next → Type 0

@@ -30,15 +30,15 @@ abbrev pub visit : ℕ → Trace → Trace
 visit a t = record { visited = a ∷ t .visited; end = t .end }
 
 -- where HPD is on, the tables on the way do not count (RULES 6.11): the leaf's sum is empty
-abbrev pub heededLeaf : Bool → Leaf → Leaf
-heededLeaf hpd l = record { value = l .value; left = l .left; tables = pick hpd noTables (l .tables) }
+abbrev pub leafUnderHpd : Bool → Leaf → Leaf
+leafUnderHpd hpd l = record { value = l .value; left = l .left; tables = pick hpd noTables (l .tables) }
 
-abbrev pub heededEnd : Bool → End → End
-heededEnd hpd (fault kind level) = fault kind level
-heededEnd hpd (leaf a l) = leaf a (heededLeaf hpd l)
+abbrev pub endUnderHpd : Bool → End → End
+endUnderHpd hpd (fault kind level) = fault kind level
+endUnderHpd hpd (leaf a l) = leaf a (leafUnderHpd hpd l)
 
-abbrev pub heeded : Bool → Trace → Trace
-heeded hpd t = record { visited = t .visited; end = heededEnd hpd (t .end) }
+abbrev pub underHpd : Bool → Trace → Trace
+underHpd hpd t = record { visited = t .visited; end = endUnderHpd hpd (t .end) }
 
 -- a trace as the code hands it back, k reads having gone before
 abbrev pub shownEnd : ℕ → End → Located

@@ -2,9 +2,9 @@
 ghost use mathlib.Core.Path.{_≡_};
 ghost use Prim.Native.Nat.{suc, _+_, _*_, _≤_, _<_, _^_};
 ghost use Rattle.vmsa.specs.Limits.{addressLimit, tszLeast, tszMost, Sized};
-ghost use Rattle.vmsa.specs.Fields.{tableBits};
+ghost use Rattle.vmsa.specs.Fields.{tableBits, sumCount};
 ghost use Rattle.geometry.specs.Geometry.{levelOf, Paged};
-ghost use Rattle.lookup.specs.Trace.{fault, ended, heeded, shown};
+ghost use Rattle.lookup.specs.Trace.{fault, ended, underHpd, shown};
 ghost use Rattle.lookup.specs.Steps.{invalid as invalidAt, isTable, addressIn, decoded, Sound, fetched, context, entryAt, followed, descend, upper as upperAt, rangeOf, outside as outsideAt, locate as locateAt};
 ghost use Rattle.lookup.specs.Packing.{kindNumber, kindNumbered, joined, packed, Packs};
 use vmsa::FaultKind;
@@ -106,7 +106,7 @@ fn kind_numbered(number: u64) -> FaultKind
 // How a lookup ends, in one number: it passes in a register, where a struct would pass through memory at every level.
 // number is that of the fault kind or of a leaf; sum and address are the tables' sum and the descriptor's address of a leaf, or 0.
 fn pack(left: u8, number: u64, sum: u64, address: PhysAddr) -> u64
-    requires { ⌜ (left ≤ 3) × (number ≤ 6) × (sum < 16) × (address .0 < 2 ^ 49) ⌝ }
+    requires { ⌜ (left ≤ 3) × (number ≤ 6) × (sum < sumCount) × (address .0 < 2 ^ 49) ⌝ }
     ensures { λ n. ⌜ n ≡ joined (levelOf left) number sum (address .0) ⌝ }
 {
     let end = number + ENDINGS * (sum + SUMS * address.0);
@@ -181,7 +181,7 @@ pub fn entry_at(c: Context, left: u8, table: PhysAddr) -> PhysAddr
 
 // Bits 62 to 59 of a table descriptor.
 fn table_bits(v: u64) -> u64
-    ensures { λ r. ⌜ (r ≡ tableBits v) × (r < 16) ⌝ }
+    ensures { λ r. ⌜ (r ≡ tableBits v) × (r < sumCount) ⌝ }
 {
     descriptor::field(v, vmsa::TABLE_START, vmsa::TABLE_WIDTH)
 }
@@ -238,7 +238,7 @@ fn follow(
 // A packed lookup over the pool, taken apart: a read for each level from the first on, the leaf read again, and the tables' sum where HPD is off.
 fn unpack(pool: &[u8], base: PhysAddr, hpd: bool, first: u8, n: u64) -> Located
     requires { ⌜ Packs (now pool) (base .0) first n ⌝ }
-    ensures { λ r. ⌜ ((p : Packs (now (pool .entry)) (base .0) first n) → r ≡ shown 0 (heeded hpd (p .trace))) ⌝ }
+    ensures { λ r. ⌜ ((p : Packs (now (pool .entry)) (base .0) first n) → r ≡ shown 0 (underHpd hpd (p .trace))) ⌝ }
 {
     let level = (n % LEVELS) as u8;
     let reads = level + 1 - first;

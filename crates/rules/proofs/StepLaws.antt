@@ -20,7 +20,7 @@ use Rattle.lookup.specs.declared.Word.{Word}
 use Rattle.lookup.specs.declared.Word.the-variants.{Value, Unreachable}
 use Rattle.lookup.specs.declared.Next.the-variants as next
 use Rattle.lookup.specs.declared.Context.{Context}
-use Rattle.lookup.specs.Trace.{End, fault, leaf, Trace, ended, heededEnd}
+use Rattle.lookup.specs.Trace.{End, fault, leaf, Trace, ended, endUnderHpd}
 use Rattle.lookup.specs.Steps.{invalid, isTable, addressIn, decoded, fetched, onward, onWord, followed, entryAt, entered, descend, rangeOf, outside, contextOf, lookup, locate}
 use Rattle.walk.specs.Walk.{traced}
 use Rattle.rules.specs.Steps.{Step, step, AllPass, FirstFails, done, pass, here, later, leafSteps, leafUnder, descriptorSteps, entrySteps, levelSteps, walkSteps}
@@ -76,8 +76,8 @@ module _ (r : Regime) (a : Access) where
   hpd = rangeOf r (a .address .0) .hpd
 
   module _ (c : Context) where
-    descriptor-steps : (below : ℕ → ℕ → List Step) (goes : ℕ → ℕ → Trace) (sum left at v : ℕ) → ((s t : ℕ) → isTable left v ≡ true → firstFault (below s t) ≡ endFault (heededEnd hpd (goes s t .end)))
-        → firstFault (descriptorSteps r a c below sum left v) ≡ endFault (heededEnd hpd (followed c goes sum left at v .end))
+    descriptor-steps : (below : ℕ → ℕ → List Step) (goes : ℕ → ℕ → Trace) (sum left at v : ℕ) → ((s t : ℕ) → isTable left v ≡ true → firstFault (below s t) ≡ endFault (endUnderHpd hpd (goes s t .end)))
+        → firstFault (descriptorSteps r a c below sum left v) ≡ endFault (endUnderHpd hpd (followed c goes sum left at v .end))
     unfolding descriptorSteps followed decoded hpd
     descriptor-steps below goes sum left at v h = by (invalid (c .page) left v) (leb (c .limit .0) (addressIn (c .page) left v)) (isTable left v) refl
       where
@@ -86,7 +86,7 @@ module _ (r : Regime) (a : Access) where
             (step i Translation (levelOf left)
             ∷ step x AddressSize (levelOf left)
             ∷ pick t (below (withTable sum v) (addressIn (c .page) left v)) (leafSteps r a (leafUnder r a sum left v)))
-            ≡ endFault (heededEnd (rangeOf r (a .address .0) .hpd)
+            ≡ endFault (endUnderHpd (rangeOf r (a .address .0) .hpd)
             (onward goes sum left at v (pick i (next.Fault Translation) (pick x (next.Fault AddressSize) (pick t (next.Table (record { 0 = addressIn (c .page) left v })) next.Leaf)))
             .end))
         by true x t e = refl
@@ -100,27 +100,27 @@ module _ (r : Regime) (a : Access) where
 
     module _ (read : ℕ → Word) where
       entry-steps : (below : ℕ → ℕ → List Step) (goes : ℕ → ℕ → Trace) (left sum table : ℕ)
-          → ((v s t : ℕ) → isTable left v ≡ true → firstFault (below s t) ≡ endFault (heededEnd hpd (goes s t .end)))
-          → firstFault (entrySteps r a c below sum left (read (entryAt c left table))) ≡ endFault (heededEnd hpd (entered c read goes left sum table .end))
+          → ((v s t : ℕ) → isTable left v ≡ true → firstFault (below s t) ≡ endFault (endUnderHpd hpd (goes s t .end)))
+          → firstFault (entrySteps r a c below sum left (read (entryAt c left table))) ≡ endFault (endUnderHpd hpd (entered c read goes left sum table .end))
       unfolding entered
       entry-steps below goes left sum table h = by (read (entryAt c left table))
         where
           by : (w : Word)
               → firstFault (entrySteps r a c below sum left w)
-              ≡ endFault (heededEnd hpd (onWord (ended (fault ExternalAbort (levelOf left))) (followed c goes sum left (entryAt c left table)) w .end))
+              ≡ endFault (endUnderHpd hpd (onWord (ended (fault ExternalAbort (levelOf left))) (followed c goes sum left (entryAt c left table)) w .end))
           by (Value v) = descriptor-steps below goes sum left (entryAt c left table) v (h v)
           by Unreachable = refl
 
       -- any number of levels from a table on
-      level-steps : (n sum table : ℕ) → firstFault (levelSteps r a c read (suc n) sum table) ≡ endFault (heededEnd hpd (descend c read (suc n) sum table .end))
+      level-steps : (n sum table : ℕ) → firstFault (levelSteps r a c read (suc n) sum table) ≡ endFault (endUnderHpd hpd (descend c read (suc n) sum table .end))
       unfolding levelSteps descend
       level-steps zero sum table = entry-steps (levelSteps r a c read zero) (descend c read zero) zero sum table (λ v s t e. absurd (no-table v e))
       level-steps (suc n) sum table = entry-steps (levelSteps r a c read (suc n)) (descend c read (suc n)) (suc n) sum table (λ v s t e. level-steps n s t)
 
   -- step 1, and what follows it
-  range-steps : (off beyond : Bool) (steps : List Step) (t : Trace) → firstFault steps ≡ endFault (heededEnd hpd (t .end))
+  range-steps : (off beyond : Bool) (steps : List Step) (t : Trace) → firstFault steps ≡ endFault (endUnderHpd hpd (t .end))
       → firstFault (step off Translation 0 ∷ step beyond AddressSize 0 ∷ steps)
-      ≡ endFault (heededEnd hpd (pick off (ended (fault Translation 0)) (pick beyond (ended (fault AddressSize 0)) t) .end))
+      ≡ endFault (endUnderHpd hpd (pick off (ended (fault Translation 0)) (pick beyond (ended (fault AddressSize 0)) t) .end))
   range-steps true beyond steps t h = refl
   range-steps false true steps t h = refl
   range-steps false false steps t h = h

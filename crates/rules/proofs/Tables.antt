@@ -10,7 +10,7 @@ use lib.Dec.{lit<}
 use lib.ListN.{length, getD}
 use Rattle.descriptor.specs.Bits.{pick, bit}
 use Rattle.descriptor.proofs.Tests.{differ, pick-both}
-use Rattle.vmsa.specs.Fields.{noTables, withTable}
+use Rattle.vmsa.specs.Fields.{sumCount, noTables, withTable}
 use Rattle.vmsa.specs.declared.Regime.{Regime}
 use Rattle.vmsa.specs.declared.Access.{Access}
 use Rattle.vmsa.specs.declared.Leaf.{Leaf}
@@ -19,7 +19,7 @@ use Rattle.checks.specs.declared.Checked.the-variants.{Accepted, Refused}
 use Rattle.checks.specs.Order.{walkCheck}
 use Rattle.lookup.specs.declared.Word.{Word}
 use Rattle.lookup.specs.declared.Word.the-variants.{Value, Unreachable}
-use Rattle.lookup.specs.Trace.{End, fault, leaf, heededLeaf, heededEnd}
+use Rattle.lookup.specs.Trace.{End, fault, leaf, leafUnderHpd, endUnderHpd}
 use Rattle.lookup.specs.Steps.{rangeOf, lookup, locate}
 use Rattle.lookup.proofs.Sums.{withWord, sumAlong, locate-sum, below-sum, clear-sum}
 use Rattle.walk.specs.Walk.{poolBytes, traced, walkAlong, walkPool, checked, walk}
@@ -84,10 +84,10 @@ module _ (r : Regime) (a : Access) (m : List ℕ) where
     unfolding traced
     leaf-sum = locate-sum (readerOf r m) r (a .address .0) at l end
 
-    pub sum-four : l .tables < 16
+    pub sum-four : l .tables < sumCount
     sum-four =
         rw leaf-sum
-        (pick-both (λ (s : ℕ). s < 16) (rangeOf r (a .address .0) .hpd) noTables (sumAlong (readerOf r m) noTables (traceOf r a m .visited)) (lit< tt)
+        (pick-both (λ (s : ℕ). s < sumCount) (rangeOf r (a .address .0) .hpd) noTables (sumAlong (readerOf r m) noTables (traceOf r a m .visited)) (lit< tt)
         (below-sum (readerOf r m) (traceOf r a m .visited) noTables (lit< tt)))
 
     module _ (test : ℕ → Bool) (n : ℕ) (adds : (s v : ℕ) → test (withTable s v) ≡ (test s || bit n v)) (none : test noTables ≡ false) where
@@ -119,9 +119,9 @@ module _ (r : Regime) (a : Access) (m : List ℕ) where
       by true = refl
       by false = refl
 
-  bare-end : (hpd : Bool) (e : End) → ((at : ℕ) (l : Leaf) → heededEnd hpd e ≡ leaf at l → l .tables ≡ noTables) → heededEnd hpd e ≡ bareEnd e
+  bare-end : (hpd : Bool) (e : End) → ((at : ℕ) (l : Leaf) → endUnderHpd hpd e ≡ leaf at l → l .tables ≡ noTables) → endUnderHpd hpd e ≡ bareEnd e
   bare-end hpd (fault kind level) h = refl
-  bare-end hpd (leaf at l) h = ap (λ (n : ℕ). leaf at (record { value = l .value; left = l .left; tables = n })) (h at (heededLeaf hpd l) refl)
+  bare-end hpd (leaf at l) h = ap (λ (n : ℕ). leaf at (record { value = l .value; left = l .left; tables = n })) (h at (leafUnderHpd hpd l) refl)
 
   bare-pool : TablesOff r a ⊎ TablesClear r a m → walkPool r a (poolBytes (r .pool) m) ≡ barePool r a (poolBytes (r .pool) m)
   unfolding walkPool traced locate

@@ -11,7 +11,7 @@ use Rattle.vmsa.specs.Limits.{pageBits}
 use Rattle.geometry.specs.Geometry.{levelOf, span, cut, outputLimit}
 use Rattle.vmsa.specs.Kinds.{isProbe, asksWrite, writes}
 use Rattle.vmsa.specs.Attributes.{attribute as attributeByte}
-use Rattle.vmsa.specs.Fields.{attributeIndex, shareability as shareabilityOf, nonglobal as nonglobalOf, af, ap2, dbm, noWriteBelow, noUserBelow, uxnBelow, pxnBelow}
+use Rattle.vmsa.specs.Fields.{attributeIndex, shareability as shareabilityOf, nonglobal as nonglobalOf, af, ap2, dbm, sumCount, noWriteBelow, noUserBelow, uxnBelow, pxnBelow}
 use Rattle.vmsa.specs.Answers.{Faulted, success, fault as faulted, codeOf}
 use Rattle.vmsa.specs.declared.Regime.{Regime}
 use Rattle.vmsa.specs.declared.Access.{Access}
@@ -57,7 +57,7 @@ pub record SumOf {r : Regime} {a : Access} {m : List ℕ} (l : LeafOf r a m) : T
   pub noUser : (noUserBelow (l .tables) ≡ true) ↔ InSum 61 r a m
   pub uxn : (uxnBelow (l .tables) ≡ true) ↔ InSum 60 r a m
   pub pxn : (pxnBelow (l .tables) ≡ true) ↔ InSum 59 r a m
-  pub four : l .tables < 16
+  pub four : l .tables < sumCount
 
 -- the leaf's descriptor lies wholly in the pool, at a multiple of 8, and is what the walk read
 pub record Placed {r : Regime} {a : Access} {m : List ℕ} (l : LeafOf r a m) : Type 0 where

@@ -16,7 +16,7 @@ use Rattle.lookup.specs.declared.Word.{Word}
 use Rattle.lookup.specs.declared.Word.the-variants.{Value, Unreachable}
 use Rattle.lookup.specs.declared.Context.{Context}
 use Rattle.lookup.specs.Steps.{invalid, isTable, addressIn, fetched, entryAt, rangeOf, outside, contextOf}
-use Rattle.lookup.specs.Trace.{heededLeaf}
+use Rattle.lookup.specs.Trace.{leafUnderHpd}
 use Rattle.permission.specs.Permission.{flagFails, alignmentFails, permissionFails}
 
 pub record Step : Type 0 where
@@ -47,7 +47,7 @@ leafSteps r a l =
 
 -- the leaf v under the tables on the way, which count where HPD of the address's range is off (RULES 6.11)
 abbrev pub leafUnder : Regime → Access → ℕ → ℕ → ℕ → Leaf
-leafUnder r a sum left v = heededLeaf (rangeOf r (a .address .0) .hpd) (record { value = v; left = left; tables = sum })
+leafUnder r a sum left v = leafUnderHpd (rangeOf r (a .address .0) .hpd) (record { value = v; left = left; tables = sum })
 
 -- 4: the descriptor v is invalid at its level. 5: its address is beyond the output size. Then a table's steps, a level lower and its bits in the sum, or a leaf's
 unfoldable pub descriptorSteps : Regime → Access → Context → (ℕ → ℕ → List Step) → ℕ → ℕ → ℕ → List Step

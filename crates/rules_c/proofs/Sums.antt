@@ -9,7 +9,7 @@ use lib.Dec.{leb, eqb}
 use lib.ListN.{length}
 use Rattle.descriptor.specs.Bits.{pick}
 use Rattle.vmsa.specs.Words.{flag}
-use Rattle.vmsa.specs.Fields.{noWriteBelow, noUserBelow, uxnBelow, pxnBelow}
+use Rattle.vmsa.specs.Fields.{sumCount, noWriteBelow, noUserBelow, uxnBelow, pxnBelow}
 use Rattle.vmsa.specs.declared.Regime.{Regime}
 use Rattle.vmsa.specs.declared.Access.{Access}
 use Rattle.vmsa.specs.declared.Leaf.{Leaf}
@@ -30,22 +30,22 @@ use Rattle.rules_c.specs.Spare.{entrySpare0}
 -- ---- the tests of a sum
 
 module _ (s : ℕ) where
-  low-write : noWriteBelow (s % 16) ≡ noWriteBelow s
-  low-write = ap (λ (x : ℕ). eqb x 1) (let e : s % 16 / 8 % 2 ≡ s / 8 % 2 = omega arith in e)
+  low-write : noWriteBelow (s % sumCount) ≡ noWriteBelow s
+  low-write = ap (λ (x : ℕ). eqb x 1) (let e : s % sumCount / 8 % 2 ≡ s / 8 % 2 = omega arith in e)
 
-  low-user : noUserBelow (s % 16) ≡ noUserBelow s
-  low-user = ap (λ (x : ℕ). eqb x 1) (let e : s % 16 / 4 % 2 ≡ s / 4 % 2 = omega arith in e)
+  low-user : noUserBelow (s % sumCount) ≡ noUserBelow s
+  low-user = ap (λ (x : ℕ). eqb x 1) (let e : s % sumCount / 4 % 2 ≡ s / 4 % 2 = omega arith in e)
 
-  low-uxn : uxnBelow (s % 16) ≡ uxnBelow s
-  low-uxn = ap (λ (x : ℕ). eqb x 1) (let e : s % 16 / 2 % 2 ≡ s / 2 % 2 = omega arith in e)
+  low-uxn : uxnBelow (s % sumCount) ≡ uxnBelow s
+  low-uxn = ap (λ (x : ℕ). eqb x 1) (let e : s % sumCount / 2 % 2 ≡ s / 2 % 2 = omega arith in e)
 
-  low-pxn : pxnBelow (s % 16) ≡ pxnBelow s
-  low-pxn = ap (λ (x : ℕ). eqb x 1) (let e : s % 16 / 1 % 2 ≡ s / 1 % 2 = omega arith in e)
+  low-pxn : pxnBelow (s % sumCount) ≡ pxnBelow s
+  low-pxn = ap (λ (x : ℕ). eqb x 1) (let e : s % sumCount / 1 % 2 ≡ s / 1 % 2 = omega arith in e)
 
 -- ---- a leaf with these four bits alone
 
 abbrev low : Leaf → Leaf
-low l = record { value = l .value; left = l .left; tables = l .tables % 16 }
+low l = record { value = l .value; left = l .left; tables = l .tables % sumCount }
 
 module _ (r : Regime) (a : Access) (l : Leaf) where
   writable-low : writable r (low l) ≡ writable r l

@@ -2,6 +2,7 @@
 use Prim.Native.Nat.{ℕ, _%_}
 use mathlib.Core.List.{List, map}
 use mathlib.Core.Path.{_≡_}
+use Rattle.vmsa.specs.Fields.{sumCount}
 use Rattle.vmsa.specs.declared.RegimeWords.{RegimeWords}
 use Rattle.tlb.specs.declared.Entry.{Entry as EntryStruct}
 use Rattle.tlb.specs.Replies.{Reply}
@@ -42,7 +43,7 @@ abbrev pub accessSpare0 : AccessWords → AccessWords
 accessSpare0 a = record { address = a .address; size = a .size; el0 = a .el0; kind = a .kind; spare16 = 0; spare32 = 0 }
 
 abbrev pub entrySpare0 : EntryStruct → EntryStruct
-entrySpare0 e = record { page = e .page; value = e .value; left = e .left; held = e .held; tables = e .tables % 16; spare8 = 0; spare32 = 0 }
+entrySpare0 e = record { page = e .page; value = e .value; left = e .left; held = e .held; tables = e .tables % sumCount; spare8 = 0; spare32 = 0 }
 
 -- those of its regime and its entries too
 abbrev pub sessionSpare0 : SessionStruct → SessionStruct

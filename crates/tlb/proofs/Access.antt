@@ -8,6 +8,7 @@ use lib.ListN.{length, take, drop}
 use Rattle.descriptor.specs.Bits.{pick}
 use Rattle.descriptor.proofs.Tests.{clash}
 use Rattle.vmsa.specs.Words.{flag, regimeOf}
+use Rattle.vmsa.specs.Fields.{sumCount}
 use Rattle.vmsa.specs.Answers.{Result, success, fault, refused as refusedWith, view, cacheableIn, codeOf, numberOf, dirtiedIn}
 use Rattle.vmsa.specs.declared.Regime.{Regime}
 use Rattle.vmsa.specs.declared.RegimeWords.{RegimeWords}
@@ -88,7 +89,7 @@ unusable-outcome r m a w u e = e ∙ rw u
 
 abbrev pub Low : Option Leaf → Type 0
 Low none = Unit {0}
-Low (some l) = (l .left ≤ 3) × (l .tables < 16)
+Low (some l) = (l .left ≤ 3) × (l .tables < sumCount)
 
 low-walk : (r : Regime) (m : List ℕ) (a : Access) (x : Spot) → located r m (ours .page r a) ≡ x → Low (walkFrom ours r m a x .kept)
 low-walk r m a (lost code level n) q = tt

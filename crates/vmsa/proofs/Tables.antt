@@ -9,11 +9,11 @@ use lib.Pow.{shr-shr}
 use lib.Bits.{bitOr, or-shr, or-mod, or-lt}
 use Rattle.descriptor.specs.Bits.{bit}
 use Rattle.descriptor.proofs.BitLaws.{set-above, clear-above}
-use Rattle.vmsa.specs.Fields.{setAf, clearAp2, tableBits, withTable, noWriteBelow, noUserBelow, uxnBelow, pxnBelow}
+use Rattle.vmsa.specs.Fields.{setAf, clearAp2, tableBits, sumCount, withTable, noWriteBelow, noUserBelow, uxnBelow, pxnBelow}
 
 -- ---- the sum
 
-pub bits-below : (v : ℕ) → tableBits v < 16
+pub bits-below : (v : ℕ) → tableBits v < sumCount
 unfolding tableBits
 bits-below v = mod-lt (v / 2 ^ 59) (lit< tt)
 
@@ -22,7 +22,7 @@ pub no-bits : tableBits 0 ≡ 0
 unfolding tableBits
 no-bits = refl
 
-pub sum-below : (sum v : ℕ) → sum < 16 → withTable sum v < 16
+pub sum-below : (sum v : ℕ) → sum < sumCount → withTable sum v < sumCount
 unfolding withTable
 sum-below sum v h = or-lt 4 sum (tableBits v) h (bits-below v)
 

@@ -45,9 +45,12 @@ clearAp2 v = clearBit 7 v
 
 -- ---- tables (the customer's papers: a table's extra bits)
 
--- bits 62 to 59 of a table descriptor, as a number of four bits; and no table's
+-- bits 62 to 59 of a table descriptor, as a number of four bits; how many such numbers there are; and that of no table
 unfoldable pub tableBits : ℕ → ℕ
 tableBits v = field 59 4 v
+
+abbrev pub sumCount : ℕ
+sumCount = 16
 
 abbrev pub noTables : ℕ
 noTables = 0
