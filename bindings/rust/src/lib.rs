@@ -178,9 +178,10 @@ pub fn version() -> u32 {
 ///
 /// On success with HA on, the leaf's Access flag is set; with HD on too, a
 /// write or update of a writable-clean page (DBM and AP\[2\] both 1, and no
-/// bit 62 above it) also clears AP\[2\]. A probe changes nothing, and so does whatever stops the
-/// walk. The tables on the way take permissions away from the leaf, unless
-/// [`Range::hpd`](Range::hpd()) is on. [`Refusal`] has the order of the checks.
+/// bit 62 above it) also clears AP\[2\]. A probe changes nothing, and so does
+/// whatever stops the walk. The tables on the way take permissions away from
+/// the leaf, unless [`Range::hpd`](Range::hpd()) is on. [`Refusal`] has the
+/// order of the checks.
 ///
 /// ```
 /// use vmsa::{walk, Access, Refusal, Regime, Stop, VirtAddr};
