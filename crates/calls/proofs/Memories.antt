@@ -23,15 +23,15 @@ use Rattle.calls.specs.Rule1.{InPool, Same}
 
 pub data Written (At : ℕ → Type 0) (m n : List ℕ) : List ℕ → List ℕ → Type 0 where
   still : Written At m n m n
-  wrote : (at v : ℕ) → ((i : ℕ) → at ≤ i → i < at + 8 → At i) → at + 8 ≤ length m → Written At m n (put m at v) (put n at v)
+  wrote : (ee : Bool) (at v : ℕ) → ((i : ℕ) → at ≤ i → i < at + 8 → At i) → at + 8 ≤ length m → Written At m n (put ee m at v) (put ee n at v)
 
 pub written-long : {At : ℕ → Type 0} {m n m′ n′ : List ℕ} → Written At m n m′ n′ → length m′ ≡ length m
 written-long still = refl
-written-long {m = m} (wrote at v h k) = length-put m at v k
+written-long {m = m} (wrote ee at v h k) = length-put ee m at v k
 
 pub written-bytes : {At : ℕ → Type 0} {m n m′ n′ : List ℕ} → Written At m n m′ n′ → Bytes m → Bytes m′
 written-bytes still b = b
-written-bytes {m = m} (wrote at v h k) b = bytes-put m at v b
+written-bytes {m = m} (wrote ee at v h k) b = bytes-put ee m at v b
 
 data Apart (at i : ℕ) : Type 0 where
   beside : (i < at) ⊎ (at + 8 ≤ i) → Apart at i
@@ -47,31 +47,31 @@ apart at i = by (ltb i at) (ltb i (at + 8)) refl refl
 
 pub written-outside : {At : ℕ → Type 0} {m n m′ n′ : List ℕ} → Written At m n m′ n′ → (i : ℕ) → (At i → ⊥) → getD m′ i 0 ≡ getD m i 0
 written-outside still i o = refl
-written-outside {At} {m} (wrote at v h k) i o = by (apart at i)
+written-outside {At} {m} (wrote ee at v h k) i o = by (apart at i)
   where
-    by : Apart at i → getD (put m at v) i 0 ≡ getD m i 0
-    by (beside b) = getD-put m at v k i b
+    by : Apart at i → getD (put ee m at v) i 0 ≡ getD m i 0
+    by (beside b) = getD-put ee m at v k i b
     by (within p q) = absurd (o (h i p q))
 
-getD-within : (m : List ℕ) (at v i : ℕ) → at + 8 ≤ length m → at ≤ i → i < at + 8 → getD (put m at v) i 0 ≡ getD (bytesOf v) (i - at) 0
+getD-within : (ee : Bool) (m : List ℕ) (at v i : ℕ) → at + 8 ≤ length m → at ≤ i → i < at + 8 → getD (put ee m at v) i 0 ≡ getD (bytesOf ee v) (i - at) 0
 unfolding put
-getD-within m at v i k p q =
+getD-within ee m at v i k p q =
     let ls : length (take at m) ≡ at = length-take-le at m (omega arith) in
     let e : i ≡ at + (i - at) = omega arith in
-    let j : i - at < length (bytesOf v) = rw (length-bytes v) (omega arith) in
-    let g : getD (take at m ++ (bytesOf v ++ drop (at + 8) m)) (length (take at m) + (i - at)) 0 ≡ getD (bytesOf v) (i - at) 0 =
-    getD-append-add (take at m) (bytesOf v ++ drop (at + 8) m) (i - at) 0 ∙ List·getD-append (bytesOf v) (drop (at + 8) m) 0 (i - at) j in
+    let j : i - at < length (bytesOf ee v) = rw (length-bytes ee v) (omega arith) in
+    let g : getD (take at m ++ (bytesOf ee v ++ drop (at + 8) m)) (length (take at m) + (i - at)) 0 ≡ getD (bytesOf ee v) (i - at) 0 =
+    getD-append-add (take at m) (bytesOf ee v ++ drop (at + 8) m) (i - at) 0 ∙ List·getD-append (bytesOf ee v) (drop (at + 8) m) 0 (i - at) j in
     rw append-assoc (rw (ls, ← e) at g)
 
 pub written-same : {At : ℕ → Type 0} {m n m′ n′ : List ℕ} → Written At m n m′ n′ → (In : ℕ → Type 0) → Same In m n → Same In m′ n′
 written-same still In h = h
-written-same {At} {m} {n} (wrote at v r k) In h =
+written-same {At} {m} {n} (wrote ee at v r k) In h =
     let k′ : at + 8 ≤ length n = subst (λ (x : ℕ). at + 8 ≤ x) (h .long) k in
-    record { long = length-put m at v k ∙ h .long ∙ sym (length-put n at v k′); bytes = λ i q. by i q k′ (apart at i) }
+    record { long = length-put ee m at v k ∙ h .long ∙ sym (length-put ee n at v k′); bytes = λ i q. by i q k′ (apart at i) }
   where
-    by : (i : ℕ) → In i → at + 8 ≤ length n → Apart at i → getD (put m at v) i 0 ≡ getD (put n at v) i 0
-    by i q k′ (beside b) = getD-put m at v k i b ∙ h .bytes i q ∙ sym (getD-put n at v k′ i b)
-    by i q k′ (within x y) = getD-within m at v i k x y ∙ sym (getD-within n at v i k′ x y)
+    by : (i : ℕ) → In i → at + 8 ≤ length n → Apart at i → getD (put ee m at v) i 0 ≡ getD (put ee n at v) i 0
+    by i q k′ (beside b) = getD-put ee m at v k i b ∙ h .bytes i q ∙ sym (getD-put ee n at v k′ i b)
+    by i q k′ (within x y) = getD-within ee m at v i k x y ∙ sym (getD-within ee n at v i k′ x y)
 
 -- ---- memories that agree in the pool have one pool
 

@@ -144,8 +144,8 @@ wrote-pool : (r : Regime) (m n : List ℕ) (at v : ℕ) → r .pool .start ≤ a
     → Written (InPool (some r)) m n (putWord ours r m at v) (putWord ours r n at v)
 wrote-pool r m n at v p q f =
     subst⁻¹ (λ (x : List ℕ). Written (InPool (some r)) m n x (putWord ours r n at v)) (put-is r m at v)
-    (subst⁻¹ (λ (x : List ℕ). Written (InPool (some r)) m n (put m at v) x) (put-is r n at v)
-    (wrote at v (λ i a b. (omega arith, omega arith)) (omega arith)))
+    (subst⁻¹ (λ (x : List ℕ). Written (InPool (some r)) m n (put (r .ee) m at v) x) (put-is r n at v)
+    (wrote (r .ee) at v (λ i a b. (omega arith, omega arith)) (omega arith)))
 
 record BothWalk (At : ℕ → Type 0) (m n : List ℕ) (x y : Walked) : Type 0 where
   reply : x .reply ≡ y .reply

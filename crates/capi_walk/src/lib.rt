@@ -9,11 +9,11 @@ use words::AccessWords;
 use words::AnswerWords;
 
 // The version of this interface.
-pub const VERSION: u32 = 7;
+pub const VERSION: u32 = 8;
 
 #[no_mangle]
 pub extern "C" fn vmsa_version() -> u32
-    ensures { λ r. ⌜ r ≡ 7 ⌝ }
+    ensures { λ r. ⌜ r ≡ 8 ⌝ }
 {
     VERSION
 }

@@ -30,10 +30,10 @@ valueAt [] i v = v
 valueAt (d ∷ ds) i v = valueAt ds i (pick (eqb (d .0) i) (d .1) v)
 
 -- the quick reader; at an address that is no multiple of 8 it is the reader itself
-unfoldable pub quick : ℕ → List (ℕ × ℕ) → ℕ → ℕ → Word
-quick n ds base a =
+unfoldable pub quick : Bool → ℕ → List (ℕ × ℕ) → ℕ → ℕ → Word
+quick ee n ds base a =
     pick (leb base a && leb (a + 8) (base + n))
-    (pick (eqb ((a - base) % 8) 0) (Value (valueAt ds (a - base) 0)) (fetched (memoryOf n ds) base a))
+    (pick (eqb ((a - base) % 8) 0) (Value (valueAt ds (a - base) 0)) (fetched ee (memoryOf ee n ds) base a))
     Unreachable
 
 -- a refusal over this memory, or else this outcome
@@ -43,4 +43,4 @@ unless memory o Accepted = o
 
 unfoldable pub quickWalk : ℕ → List (ℕ × ℕ) → Regime → Access → Outcome
 quickWalk n ds r a =
-    unless (memoryOf n ds) (walkAlong r a (memoryOf n ds) (locate r (quick n ds (r .pool .address .0)) (a .address .0))) (walkCheck n r a)
+    unless (memoryOf (r .ee) n ds) (walkAlong r a (memoryOf (r .ee) n ds) (locate r (quick (r .ee) n ds (r .pool .address .0)) (a .address .0))) (walkCheck n r a)

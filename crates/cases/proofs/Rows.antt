@@ -1,27 +1,30 @@
 -- The table is proved: antt computes the quick walk of every row, and one law turns that into the walk.
 use mathlib.Core.Bool.{Bool, true, _&&_}
 use mathlib.Core.Path.{_≡_, refl, ap, _∙_}
-use Prim.Native.Nat.{ℕ}
+use Prim.Native.Nat.{ℕ, _+_, _-_, _≤_}
 use mathlib.Core.List.{List, [], _∷_}
-use lib.Dec.{eqb}
+use lib.Dec.{eqb, lit≤}
+use lib.ListN.{length, take, drop}
 use borrow.Author.Tests.{eqb-true}
-use Rattle.descriptor.specs.Bytes.{digits, bytesOf}
+use Rattle.descriptor.specs.Bytes.{digits, ordered, bytesOf}
 use Rattle.descriptor.specs.Bits.{setBit, clearBit}
+use Rattle.descriptor.proofs.Laws.{take-put}
 use Rattle.descriptor.proofs.Tests.{and-true}
 use Rattle.geometry.specs.Geometry.{pageSize, strideBits, unaligned, pageOf, levelOf, shiftOf, span, blockAt, firstLeft, cut, outputBits, outputLimit}
 use Rattle.vmsa.specs.Attributes.{attribute, device, normal}
 use Rattle.vmsa.specs.Fields.{tableBits, withTable}
 use Rattle.refusals.specs.Tests.{memoryPoolBad, poolAddressBad, tszBad, sizesBad, rootBad, rootsBad, attributeBad, attributesBad, dirtyStateBad, accessSizeBad, lastByte, crossing}
 use Rattle.checks.specs.Order.{walkCheck}
-use Rattle.vmsa.specs.declared.AccessKind.the-variants.{Read}
+use Rattle.vmsa.specs.declared.Regime.{Regime}
+use Rattle.vmsa.specs.declared.AccessKind.the-variants.{Read, Write}
 use Rattle.lookup.specs.Trace.{Trace}
 use Rattle.lookup.specs.Steps.{invalid, isTable, addressIn, decoded, entryAt, followed, entered, descend, upper, rangeOf, outside, contextOf, lookup, locate}
 use Rattle.permission.specs.Permission.{attributeOf, writable, clean, user, uxn, pxn, mayRead, mayWrite, mayFetchWith, mayFetch, permitted, misaligned, flagFails, alignmentFails, permissionFails}
 use Rattle.decision.specs.Decision.{flagDue, dirtyDue, updated, cacheable, outputOf, failing, passing, decision}
 use Rattle.walk.specs.Walk.{Outcome}
-use Rattle.cases.specs.Cases.{poolAddress, base, usual, withThird, puts, Row, expected, Holds, All, rows, visitedIn, Worked}
+use Rattle.cases.specs.Cases.{poolAddress, base, bigEndian, usual, leafAddress, dirtyLeaf, withThird, tables, puts, memoryOf, Row, row, expected, Holds, All, passed, leafNow, rows, visitedIn, leafBytes, Worked}
 use Rattle.cases.proofs.Quick.{placed, allPlaced, valueAt, quick, quickWalk}
-use Rattle.cases.proofs.Sparse.{traced-quick, walk-quick}
+use Rattle.cases.proofs.Sparse.{memory-length, traced-quick, walk-quick}
 
 -- the pool starts the memory, and the descriptors lie in it
 abbrev sound : Row → Bool
@@ -61,9 +64,30 @@ all-computed : outcomes computed rows ≡ outcomes expected rows
 unfolding outcomes rows puts valueAt quick quickWalk setBit clearBit pageSize strideBits unaligned pageOf levelOf shiftOf span blockAt firstLeft cut outputBits outputLimit attribute device normal memoryPoolBad poolAddressBad tszBad sizesBad rootBad rootsBad attributeBad attributesBad dirtyStateBad accessSizeBad lastByte crossing walkCheck invalid isTable addressIn decoded entryAt followed entered descend upper rangeOf outside contextOf lookup locate tableBits withTable attributeOf writable clean user uxn pxn mayRead mayWrite mayFetchWith mayFetch permitted misaligned flagFails alignmentFails permissionFails flagDue dirtyDue updated cacheable outputOf failing passing decision
 all-computed = refl
 
-visited : (ds : List (ℕ × ℕ)) → allPlaced (base .pool .length) ds ≡ true → visitedIn ds ≡ locate base (quick (base .pool .length) ds poolAddress) (usual Read .address .0) .visited
+visited : (ds : List (ℕ × ℕ)) → allPlaced (base .pool .length) ds ≡ true → visitedIn ds ≡ locate base (quick (base .ee) (base .pool .length) ds poolAddress) (usual Read .address .0) .visited
 visited ds ok = ap (λ (t : Trace). t .visited) (traced-quick base (usual Read .address .0) ds ok)
 
+-- P2's row
+abbrev written : Regime → Row
+written r = row r (usual Write) tables (passed 0x80005ABC true true true) (leafNow dirtyLeaf)
+
+-- the bytes that it leaves of the leaf, from the row
+leaf-bytes : (r : Regime) → allPlaced (r .pool .length) tables ≡ true → leafAddress - poolAddress + 8 ≤ r .pool .length → Holds (written r) → leafBytes r ≡ bytesOf (r .ee) dirtyLeaf
+unfolding Holds puts
+leaf-bytes r ok k h =
+    let n = r .pool .length in
+    ap (λ (o : Outcome). take 8 (drop (leafAddress - poolAddress) (o .bytes))) h
+    ∙ take-put (r .ee) (memoryOf (r .ee) n tables) (leafAddress - poolAddress) dirtyLeaf (rw (memory-length (r .ee) n tables ok) k)
+
 pub worked : Worked
-unfolding Worked bytesOf digits allPlaced placed valueAt quick pageSize strideBits unaligned pageOf levelOf shiftOf span blockAt firstLeft cut outputBits outputLimit attribute device normal memoryPoolBad poolAddressBad tszBad sizesBad rootBad rootsBad attributeBad attributesBad dirtyStateBad accessSizeBad lastByte crossing walkCheck invalid isTable addressIn decoded entryAt followed entered descend upper rangeOf outside contextOf lookup locate tableBits withTable
-worked = (each rows all-sound all-computed, refl, visited (withThird 0x4000F003) refl, visited (withThird 0x40010003) refl, refl, refl)
+unfolding Worked All rows bytesOf ordered digits allPlaced placed valueAt quick pageSize strideBits unaligned pageOf levelOf shiftOf span blockAt firstLeft cut outputBits outputLimit attribute device normal memoryPoolBad poolAddressBad tszBad sizesBad rootBad rootsBad attributeBad attributesBad dirtyStateBad accessSizeBad lastByte crossing walkCheck invalid isTable addressIn decoded entryAt followed entered descend upper rangeOf outside contextOf lookup locate tableBits withTable
+worked =
+    let all = each rows all-sound all-computed in (
+      all,
+      leaf-bytes base refl (lit≤ tt) (all .1 .0),
+      leaf-bytes bigEndian refl (lit≤ tt) (all .1 .1 .0),
+      visited (withThird 0x4000F003) refl,
+      visited (withThird 0x40010003) refl,
+      refl,
+      refl,
+    )

@@ -10,7 +10,7 @@ use lib.Dec.{leb, ltb, eqb}
 use lib.ListN.{replicate, length, take, drop, length-replicate, replicate-append-replicate}
 use lib.Seq.{take-length, drop-length, take-at, drop-at}
 use borrow.Author.Tests.{eqb-true, eqb-false, leb-true, ltb-true, ltb-false}
-use Rattle.descriptor.specs.Bytes.{number, valueOf, desc, put}
+use Rattle.descriptor.specs.Bytes.{number, ordered, valueOf, desc, put}
 use Rattle.descriptor.specs.Bits.{pick}
 use Rattle.descriptor.proofs.Laws.{length-put, desc-put-aligned}
 use Rattle.descriptor.proofs.Tests.{and-true}
@@ -21,7 +21,7 @@ use Rattle.checks.specs.declared.Checked.the-variants.{Accepted, Refused}
 use Rattle.checks.specs.Order.{walkCheck}
 use Rattle.lookup.specs.declared.Word.{Word}
 use Rattle.lookup.specs.declared.Word.the-variants.{Value, Unreachable}
-use Rattle.lookup.specs.Steps.{fetched, locate}
+use Rattle.lookup.specs.Steps.{fetched, poolReader, locate}
 use Rattle.walk.specs.Walk.{Outcome, traced, walkAlong, walkPool, checked, walk}
 use Rattle.cases.specs.Cases.{puts, memoryOf}
 use Rattle.cases.proofs.Quick.{placed, allPlaced, valueAt, quick, unless, quickWalk}
@@ -44,13 +44,14 @@ zero-bytes n j h =
     let s : zeros n ≡ zeros j ++ (zeros 8 ++ zeros rest) = ap zeros e ∙ zeros-split j (8 + rest) ∙ ap (λ (r : List ℕ). zeros j ++ r) (zeros-split 8 rest) in
     rw (s, drop-at (zeros j) (zeros 8 ++ zeros rest) j (zeros-length j), take-at (zeros 8) (zeros rest) 8 (zeros-length 8))
 
-zero-value : valueOf (zeros 8) ≡ 0
-unfolding valueOf number
-zero-value = refl
+zero-value : (ee : Bool) → valueOf ee (zeros 8) ≡ 0
+unfolding valueOf ordered number
+zero-value true = refl
+zero-value false = refl
 
-zero-desc : (n j : ℕ) → j + 8 ≤ n → desc (zeros n) j ≡ 0
+zero-desc : (ee : Bool) (n j : ℕ) → j + 8 ≤ n → desc ee (zeros n) j ≡ 0
 unfolding desc
-zero-desc n j h = ap valueOf (zero-bytes n j h) ∙ zero-value
+zero-desc ee n j h = ap (valueOf ee) (zero-bytes n j h) ∙ zero-value ee
 
 -- ---- a memory with descriptors put in
 
@@ -66,49 +67,49 @@ is-placed n d e =
     let t = and-true (eqb (d .0 % 8) 0) (leb (d .0 + 8) n) (s .0) in
     record { aligned = eqb-true (d .0 % 8) 0 (t .0); inside = leb-true (d .0 + 8) n (t .1); small = ltb-true (d .1) (2 ^ 64) (s .1) }
 
-module _ (n : ℕ) where
-  puts-length : (l : List ℕ) (ds : List (ℕ × ℕ)) → length l ≡ n → allPlaced n ds ≡ true → length (puts l ds) ≡ n
+module _ (ee : Bool) (n : ℕ) where
+  puts-length : (l : List ℕ) (ds : List (ℕ × ℕ)) → length l ≡ n → allPlaced n ds ≡ true → length (puts ee l ds) ≡ n
   unfolding puts allPlaced
   puts-length l [] e f = e
   puts-length l (d ∷ ds) e f =
       let s = and-true (placed n d) (allPlaced n ds) f in
       let p = is-placed n d (s .0) in
-      puts-length (put l (d .0) (d .1)) ds (length-put l (d .0) (d .1) (omega arith) ∙ e) (s .1)
+      puts-length (put ee l (d .0) (d .1)) ds (length-put ee l (d .0) (d .1) (omega arith) ∙ e) (s .1)
 
   puts-desc : (l : List ℕ) (ds : List (ℕ × ℕ)) (j : ℕ) → length l ≡ n → allPlaced n ds ≡ true → j % 8 ≡ 0 → j + 8 ≤ n
-      → desc (puts l ds) j ≡ valueAt ds j (desc l j)
+      → desc ee (puts ee l ds) j ≡ valueAt ds j (desc ee l j)
   unfolding puts allPlaced valueAt
   puts-desc l [] j e f aj hj = refl
   puts-desc l (d ∷ ds) j e f aj hj =
       let s = and-true (placed n d) (allPlaced n ds) f in
       let p = is-placed n d (s .0) in
-      puts-desc (put l (d .0) (d .1)) ds j (length-put l (d .0) (d .1) (omega arith) ∙ e) (s .1) aj hj
-      ∙ ap (valueAt ds j) (desc-put-aligned l (d .0) (d .1) j (p .aligned) aj (omega arith) (omega arith) (p .small))
+      puts-desc (put ee l (d .0) (d .1)) ds j (length-put ee l (d .0) (d .1) (omega arith) ∙ e) (s .1) aj hj
+      ∙ ap (valueAt ds j) (desc-put-aligned ee l (d .0) (d .1) j (p .aligned) aj (omega arith) (omega arith) (p .small))
 
 -- ---- the quick reader is the reader, at every address
 
-module _ (n : ℕ) (ds : List (ℕ × ℕ)) (ok : allPlaced n ds ≡ true) where
-  memory-length : length (memoryOf n ds) ≡ n
+module _ (ee : Bool) (n : ℕ) (ds : List (ℕ × ℕ)) (ok : allPlaced n ds ≡ true) where
+  pub memory-length : length (memoryOf ee n ds) ≡ n
   unfolding memoryOf
-  memory-length = puts-length n (zeros n) ds (zeros-length n) ok
+  memory-length = puts-length ee n (zeros n) ds (zeros-length n) ok
 
-  memory-desc : (j : ℕ) → j % 8 ≡ 0 → j + 8 ≤ n → desc (memoryOf n ds) j ≡ valueAt ds j 0
+  memory-desc : (j : ℕ) → j % 8 ≡ 0 → j + 8 ≤ n → desc ee (memoryOf ee n ds) j ≡ valueAt ds j 0
   unfolding memoryOf
-  memory-desc j a h = puts-desc n (zeros n) ds j (zeros-length n) ok a h ∙ ap (valueAt ds j) (zero-desc n j h)
+  memory-desc j a h = puts-desc ee n (zeros n) ds j (zeros-length n) ok a h ∙ ap (valueAt ds j) (zero-desc ee n j h)
 
   within : (base x : ℕ) (b : Bool) → (leb base x && leb (x + 8) (base + n)) ≡ b
-      → fetched (memoryOf n ds) base x ≡ pick b (Value (desc (memoryOf n ds) (x - base))) Unreachable
+      → fetched ee (memoryOf ee n ds) base x ≡ pick b (Value (desc ee (memoryOf ee n ds) (x - base))) Unreachable
   unfolding fetched
   within base x b e = rw (memory-length, e)
 
-  same-word : (base x : ℕ) → fetched (memoryOf n ds) base x ≡ quick n ds base x
+  same-word : (base x : ℕ) → fetched ee (memoryOf ee n ds) base x ≡ quick ee n ds base x
   unfolding quick
   same-word base x = by (leb base x && leb (x + 8) (base + n)) refl
     where
       real : Word
-      real = fetched (memoryOf n ds) base x
+      real = fetched ee (memoryOf ee n ds) base x
 
-      aligned : (b : Bool) → eqb ((x - base) % 8) 0 ≡ b → (x - base) + 8 ≤ n → real ≡ Value (desc (memoryOf n ds) (x - base))
+      aligned : (b : Bool) → eqb ((x - base) % 8) 0 ≡ b → (x - base) + 8 ≤ n → real ≡ Value (desc ee (memoryOf ee n ds) (x - base))
           → real ≡ pick b (Value (valueAt ds (x - base) 0)) real
       aligned true e h q = q ∙ ap Value (memory-desc (x - base) (eqb-true ((x - base) % 8) 0 e) h)
       aligned false e h q = refl
@@ -121,7 +122,7 @@ module _ (n : ℕ) (ds : List (ℕ × ℕ)) (ok : allPlaced n ds ≡ true) where
           aligned (eqb ((x - base) % 8) 0) refl (omega arith) (within base x true e)
       by false e = within base x false e
 
-  same-reader : (base : ℕ) → fetched (memoryOf n ds) base ≡ quick n ds base
+  same-reader : (base : ℕ) → fetched ee (memoryOf ee n ds) base ≡ quick ee n ds base
   same-reader base = fun-ext (same-word base)
 
 -- ---- and so the walks are the same
@@ -135,21 +136,21 @@ over-whole : (r : Regime) (a : Access) (m : List ℕ) (c : Checked) → r .pool 
 over-whole r a m (Refused x) s l = refl
 over-whole r a m Accepted s l = whole m (walkPool r a) (r .pool .start) (r .pool .length) s l
 
-along : (r : Regime) (a : Access) (pool : List ℕ) → walkPool r a pool ≡ walkAlong r a pool (locate r (fetched pool (r .pool .address .0)) (a .address .0))
+along : (r : Regime) (a : Access) (pool : List ℕ) → walkPool r a pool ≡ walkAlong r a pool (locate r (poolReader r pool) (a .address .0))
 unfolding walkPool traced
 along r a pool = refl
 
 -- the descriptors visited
 pub traced-quick : (r : Regime) (a : ℕ) (ds : List (ℕ × ℕ)) → allPlaced (r .pool .length) ds ≡ true
-    → traced r (memoryOf (r .pool .length) ds) a ≡ locate r (quick (r .pool .length) ds (r .pool .address .0)) a
+    → traced r (memoryOf (r .ee) (r .pool .length) ds) a ≡ locate r (quick (r .ee) (r .pool .length) ds (r .pool .address .0)) a
 unfolding traced
-traced-quick r a ds ok = ap (λ (read : ℕ → Word). locate r read a) (same-reader (r .pool .length) ds ok (r .pool .address .0))
+traced-quick r a ds ok = ap (λ (read : ℕ → Word). locate r read a) (same-reader (r .ee) (r .pool .length) ds ok (r .pool .address .0))
 
 pub walk-quick : (r : Regime) (a : Access) (ds : List (ℕ × ℕ)) → r .pool .start ≡ 0 → allPlaced (r .pool .length) ds ≡ true
-    → walk r a (memoryOf (r .pool .length) ds) ≡ quickWalk (r .pool .length) ds r a
+    → walk r a (memoryOf (r .ee) (r .pool .length) ds) ≡ quickWalk (r .pool .length) ds r a
 unfolding walk quickWalk
 walk-quick r a ds s ok =
     let n = r .pool .length in
-    let m = memoryOf n ds in
-    over-whole r a m (walkCheck (length m) r a) s (sym (memory-length n ds ok))
-    ∙ rw (memory-length n ds ok, along r a m, same-reader n ds ok (r .pool .address .0))
+    let m = memoryOf (r .ee) n ds in
+    over-whole r a m (walkCheck (length m) r a) s (sym (memory-length (r .ee) n ds ok))
+    ∙ rw (memory-length (r .ee) n ds ok, along r a m, same-reader (r .ee) n ds ok (r .pool .address .0))

@@ -3,10 +3,10 @@ use Prim.Native.Nat.{ℕ, _+_, _*_, _-_}
 use mathlib.Core.Bool.{Bool, true, false}
 use mathlib.Core.List.{List, [], _∷_, _++_}
 use mathlib.Core.Path.{_≡_}
-use lib.ListN.{replicate}
-use Rattle.descriptor.specs.Bytes.{bytesOf, put}
+use lib.ListN.{replicate, take, drop}
+use Rattle.descriptor.specs.Bytes.{put}
 use Rattle.vmsa.specs.Answers.{Result, success, fault, refused}
-use Rattle.vmsa.specs.Settings.{disabledRange, withPool, withRange0, withHpd0, withHpd1, withOutput, withHa, withHd, withWxn, withAttributes}
+use Rattle.vmsa.specs.Settings.{disabledRange, withPool, withRange0, withHpd0, withHpd1, withOutput, withHa, withHd, withWxn, withEe, withAttributes}
 use Rattle.vmsa.specs.declared.Regime.{Regime}
 use Rattle.vmsa.specs.declared.Pool.{Pool}
 use Rattle.vmsa.specs.declared.Range.{Range}
@@ -45,8 +45,13 @@ base = record {
   ha = true;
   hd = true;
   wxn = false;
+  ee = false;
   attributes = eight 0xFF;
 }
+
+-- the same with EE on
+abbrev pub bigEndian : Regime
+bigEndian = withEe base true
 
 -- the regime with the longest pool; its length is P12's number, to hold the limit against
 abbrev pub longest : Regime
@@ -108,14 +113,14 @@ accessedKernelLeaf = 0x0008000080005783
 abbrev pub underSecond : ℕ → ℕ → List (ℕ × ℕ)
 underSecond bits v = descriptors 0x40001003 (bits * 0x0800000000000000 + 0x40002003) 0x40003003 v
 
--- a memory with these descriptors put at their offsets
-unfoldable pub puts : List ℕ → List (ℕ × ℕ) → List ℕ
-puts memory [] = memory
-puts memory (d ∷ ds) = puts (put memory (d .0) (d .1)) ds
+-- a memory with these descriptors put at their offsets, in the byte order of ee
+unfoldable pub puts : Bool → List ℕ → List (ℕ × ℕ) → List ℕ
+puts ee memory [] = memory
+puts ee memory (d ∷ ds) = puts ee (put ee memory (d .0) (d .1)) ds
 
 -- n bytes, all 0 but for these descriptors
-unfoldable pub memoryOf : ℕ → List (ℕ × ℕ) → List ℕ
-memoryOf n ds = puts (replicate n 0) ds
+unfoldable pub memoryOf : Bool → ℕ → List (ℕ × ℕ) → List ℕ
+memoryOf ee n ds = puts ee (replicate n 0) ds
 
 -- ---- the claim
 
@@ -130,12 +135,12 @@ pub record Row : Type 0 where
 abbrev pub row : Regime → Access → List (ℕ × ℕ) → Result → List (ℕ × ℕ) → Row
 row regime access found result changed = record { regime = regime; access = access; found = found; result = result; changed = changed }
 
--- the memory is exactly the pool
+-- the memory is exactly the pool, in the regime's byte order
 abbrev pub memory : Row → List ℕ
-memory r = memoryOf (r .regime .pool .length) (r .found)
+memory r = memoryOf (r .regime .ee) (r .regime .pool .length) (r .found)
 
 abbrev pub expected : Row → Outcome
-expected r = record { result = r .result; bytes = puts (memory r) (r .changed) }
+expected r = record { result = r .result; bytes = puts (r .regime .ee) (memory r) (r .changed) }
 
 -- the walk gives this result, and leaves every byte as it was but for the descriptors changed
 unfoldable pub Holds : Row → Type 0
@@ -176,6 +181,8 @@ rows =
     row base (usual Read) tables (passed 0x80005ABC true false true) (leafNow accessedLeaf)
     -- P2
     ∷ row base (usual Write) tables (passed 0x80005ABC true true true) (leafNow dirtyLeaf)
+    -- P2 with EE on, all descriptors big-endian
+    ∷ row bigEndian (usual Write) tables (passed 0x80005ABC true true true) (leafNow dirtyLeaf)
     -- P3, with the size that a probe has; size 4 is refused
     ∷ row base (access 0x403ABC 1 ProbeWrite) tables (passed 0x80005ABC false false false) []
     ∷ row base (usual ProbeWrite) tables (refused 6) []
@@ -256,18 +263,31 @@ rows =
     -- bit 63 of a table has no say, and a leaf's own bits 63 to 59 have none
     ∷ row base (usual Write) (underSecond 0b10000 leaf) (passed 0x80005ABC true true true) (leafNow dirtyLeaf)
     ∷ row base (usual Write) (withLeaf 0xF8080000800053C3) (passed 0x80005ABC true true true) (leafNow 0xF808000080005743)
+    -- P1, P4 and P7 with EE on, and bit 62 of a table
+    ∷ row bigEndian (usual Read) tables (passed 0x80005ABC true false true) (leafNow accessedLeaf)
+    ∷ row (withHd bigEndian false) (usual Write) tables (failed 15 3 false 4) []
+    ∷ row bigEndian (usual Read) (withThird 0x40010003) (failed 23 3 false 4) []
+    ∷ row bigEndian (usual Write) (underSecond 0b01000 leaf) (failed 15 3 false 4) []
+    -- a table descriptor in the other order, with EE on and off: its bit 0 is that of another byte
+    ∷ row bigEndian (usual Read) (stored 0x40000000 0x0310004000000000 ∷ []) (failed 4 0 false 1) []
+    ∷ row base (usual Read) (stored 0x40000000 0x0310004000000000 ∷ []) (failed 4 0 false 1) []
     ∷ []
 
 -- the descriptor addresses that the usual access visits, in order
 abbrev pub visitedIn : List (ℕ × ℕ) → List ℕ
-visitedIn found = traced base (memoryOf (base .pool .length) found) (usual Read .address .0) .visited
+visitedIn found = traced base (memoryOf (base .ee) (base .pool .length) found) (usual Read .address .0) .visited
 
--- the claim: every row holds; P2's leaf has these bytes; P6 and P7 read these addresses, the last within the pool and just after it;
+-- the 8 bytes of the leaf's descriptor that P2 leaves under a regime
+abbrev pub leafBytes : Regime → List ℕ
+leafBytes r = take 8 (drop (leafAddress - poolAddress) (walk r (usual Write) (memoryOf (r .ee) (r .pool .length) tables) .bytes))
+
+-- the claim: every row holds; P2 leaves these bytes of its leaf, and with EE on these; P6 and P7 read these addresses, the last within the pool and just after it;
 -- a memory of so many bytes is accepted, and of one more refused
 unfoldable pub Worked : Type 0
 Worked =
     All rows
-    × (bytesOf dirtyLeaf ≡ 0x43 ∷ 0x57 ∷ 0x00 ∷ 0x80 ∷ 0x00 ∷ 0x00 ∷ 0x08 ∷ 0x00 ∷ [])
+    × (leafBytes base ≡ 0x43 ∷ 0x57 ∷ 0x00 ∷ 0x80 ∷ 0x00 ∷ 0x00 ∷ 0x08 ∷ 0x00 ∷ [])
+    × (leafBytes bigEndian ≡ 0x00 ∷ 0x08 ∷ 0x00 ∷ 0x00 ∷ 0x80 ∷ 0x00 ∷ 0x57 ∷ 0x43 ∷ [])
     × (visitedIn (withThird 0x4000F003) ≡ 0x40000000 ∷ 0x40001000 ∷ 0x40002010 ∷ 0x4000F018 ∷ [])
     × (visitedIn (withThird 0x40010003) ≡ 0x40000000 ∷ 0x40001000 ∷ 0x40002010 ∷ 0x40010018 ∷ [])
     × (walkCheck 16777216 base (usual Read) ≡ Accepted)

@@ -1,12 +1,17 @@
 -- Bytes stay bytes, and a descriptor of bytes is below 2 ^ 64.
-use Prim.Native.Nat.{ℕ, zero, suc, _+_, _/_, _^_, _<_, _≤_}
-use mathlib.Core.List.{List, [], _∷_, _++_}
-use native.Mathlib.Nat.{pow-succ', mod-lt}
+use Prim.Native.Nat.{ℕ, zero, suc, _+_, _*_, _/_, _%_, _^_, _<_, _≤_, zero-le}
+use mathlib.Core.Bool.{Bool, true, false}
+use mathlib.Core.Path.{_≡_, refl, sym, ap, _∙_}
+use mathlib.Core.List.{List, [], _∷_, _++_, reverse, reverse-cons}
+use native.Mathlib.Nat.{pow-succ', mod-lt, div-one}
+use lib.Pow.{shr-shr}
 use native.Mathlib.Omega.{arith}
 use lib.Dec.{lit<}
-use lib.ListN.{take, drop}
+use lib.ListN.{length, take, drop, length-take}
 use lib.Seq.{getD-drop}
-use Rattle.descriptor.specs.Bytes.{Bytes, number, digits, valueOf, bytesOf, desc, put}
+use Rattle.descriptor.specs.Bits.{field}
+use Rattle.descriptor.specs.Bytes.{Bytes, number, digits, ordered, valueOf, bytesOf, desc, put}
+use Rattle.descriptor.proofs.Laws.{length-ordered, length-bytes}
 
 -- ---- parts of bytes are bytes
 
@@ -24,32 +29,86 @@ bytes-append [] m h k i = k i
 bytes-append (b ∷ l) m h k zero = h 0
 bytes-append (b ∷ l) m h k (suc i) = bytes-append l m (λ j. h (suc j)) k i
 
+bytes-one : (b : ℕ) → b < 256 → Bytes (b ∷ [])
+bytes-one b h zero = h
+bytes-one b h (suc i) = lit< tt
+
 bytes-digits : (n v : ℕ) → Bytes (digits n v)
 unfolding digits
 bytes-digits zero v i = lit< tt
 bytes-digits (suc n) v zero = mod-lt v (lit< tt)
 bytes-digits (suc n) v (suc i) = bytes-digits n (v / 256) i
 
-pub bytes-bytes : (v : ℕ) → Bytes (bytesOf v)
-unfolding bytesOf
-bytes-bytes v = bytes-digits 8 v
+bytes-reverse : (l : List ℕ) → Bytes l → Bytes (reverse l)
+bytes-reverse [] h = h
+bytes-reverse (b ∷ l) h = rw (reverse-cons b l) (bytes-append (reverse l) (b ∷ []) (bytes-reverse l (λ i. h (suc i))) (bytes-one b (h 0)))
 
-pub bytes-put : (m : List ℕ) (i v : ℕ) → Bytes m → Bytes (put m i v)
+bytes-ordered : (ee : Bool) (l : List ℕ) → Bytes l → Bytes (ordered ee l)
+unfolding ordered
+bytes-ordered true l h = bytes-reverse l h
+bytes-ordered false l h = h
+
+pub bytes-bytes : (ee : Bool) (v : ℕ) → Bytes (bytesOf ee v)
+unfolding bytesOf
+bytes-bytes ee v = bytes-ordered ee (digits 8 v) (bytes-digits 8 v)
+
+pub bytes-put : (ee : Bool) (m : List ℕ) (i v : ℕ) → Bytes m → Bytes (put ee m i v)
 unfolding put
-bytes-put m i v h =
-    bytes-append (take i m ++ bytesOf v) (drop (i + 8) m) (bytes-append (take i m) (bytesOf v) (bytes-take m i h) (bytes-bytes v)) (bytes-drop m (i + 8) h)
+bytes-put ee m i v h =
+    bytes-append (take i m ++ bytesOf ee v) (drop (i + 8) m) (bytes-append (take i m) (bytesOf ee v) (bytes-take m i h) (bytes-bytes ee v)) (bytes-drop m (i + 8) h)
 
 -- ---- sizes
 
-number-small : (n : ℕ) (l : List ℕ) → Bytes l → number (take n l) < 256 ^ n
+number-small : (n : ℕ) (l : List ℕ) → length l ≤ n → Bytes l → number l < 256 ^ n
 unfolding number
-number-small zero l h = omega arith
-number-small (suc n) [] h = let s : number (take n []) < 256 ^ n = number-small n [] h in rw (pow-succ' 256 n) (omega arith)
-number-small (suc n) (b ∷ l) h =
-    let s : number (take n l) < 256 ^ n = number-small n l (λ i. h (suc i)) in
+number-small zero [] k h = lit< tt
+number-small (suc n) [] k h = let s : 0 < 256 ^ n = number-small n [] zero-le h in rw (pow-succ' 256 n) (omega arith)
+number-small zero (b ∷ l) k h = absurd (omega arith)
+number-small (suc n) (b ∷ l) k h =
+    let s : number l < 256 ^ n = number-small n l (omega arith) (λ i. h (suc i)) in
     let t : b < 256 = h 0 in
     rw (pow-succ' 256 n) (omega arith)
 
-pub desc-small : (m : List ℕ) (i : ℕ) → Bytes m → desc m i < 2 ^ 64
+pub desc-small : (ee : Bool) (m : List ℕ) (i : ℕ) → Bytes m → desc ee m i < 2 ^ 64
 unfolding desc valueOf
-desc-small m i h = number-small 8 (drop i m) (bytes-drop m i h)
+desc-small ee m i h =
+    let eight = take 8 (drop i m) in
+    number-small 8 (ordered ee eight) (rw (length-ordered ee eight, length-take 8 (drop i m)) (omega arith)) (bytes-ordered ee eight (bytes-take (drop i m) 8 (bytes-drop m i h)))
+
+-- ---- the bytes of a number as fields
+
+-- n fields of a byte, from bit s on
+unfoldable pub fields : ℕ → ℕ → ℕ → List ℕ
+fields zero s v = []
+fields (suc n) s v = field s 8 v ∷ fields n (s + 8) v
+
+fields-from : (n s v : ℕ) → digits n (v / 2 ^ s) ≡ fields n s v
+unfolding digits fields
+fields-from zero s v = refl
+fields-from (suc n) s v = ap (λ (r : List ℕ). field s 8 v ∷ r) (ap (digits n) (shr-shr v s 8) ∙ fields-from n (s + 8) v)
+
+pub digits-fields : (n v : ℕ) → digits n v ≡ fields n 0 v
+digits-fields n v = ap (digits n) (sym (div-one v)) ∙ fields-from n 0 v
+
+-- ---- bytes come back from their number
+
+-- the lowest first
+digits-number : (l : List ℕ) → Bytes l → digits (length l) (number l) ≡ l
+unfolding digits number
+digits-number [] h = refl
+digits-number (b ∷ l) h =
+    let t : b < 256 = h 0 in
+    let low : (b + 256 * number l) % 256 ≡ b = omega arith in
+    let high : (b + 256 * number l) / 256 ≡ number l = omega arith in
+    rw (low, high) (ap (λ (r : List ℕ). b ∷ r) (digits-number l (λ i. h (suc i))))
+
+-- 8 bytes read the lowest first, and taken for that number's bytes: read in either order it is the same value
+pub value-again : (ee : Bool) (l : List ℕ) → length l ≡ 8 → Bytes l → valueOf ee (digits 8 (number l)) ≡ valueOf ee l
+value-again ee l e h = ap (valueOf ee) (rw e at (digits-number l h))
+
+-- a value's bytes in either order, as the bytes of a number, the lowest first
+pub bytes-again : (ee : Bool) (v : ℕ) → digits 8 (valueOf ee (digits 8 v)) ≡ bytesOf ee v
+unfolding valueOf bytesOf
+bytes-again ee v =
+    let e : length (ordered ee (digits 8 v)) ≡ 8 = length-bytes ee v in
+    rw e at (digits-number (ordered ee (digits 8 v)) (bytes-ordered ee (digits 8 v) (bytes-digits 8 v)))

@@ -1,7 +1,9 @@
--- A descriptor as 8 little-endian bytes of a memory (RULES 2.3).
+-- A descriptor as 8 bytes of a memory, in either order (RULES 2.3).
 use Prim.Native.Nat.{ℕ, zero, suc, _+_, _*_, _/_, _%_, _<_}
-use mathlib.Core.List.{List, [], _∷_, _++_}
+use mathlib.Core.Bool.{Bool}
+use mathlib.Core.List.{List, [], _∷_, _++_, reverse}
 use lib.ListN.{getD, take, drop}
+use Rattle.descriptor.specs.Bits.{pick}
 
 -- a memory of bytes: each is a number below 256; past the end getD gives 0
 abbrev pub Bytes : List ℕ → Type 0
@@ -17,17 +19,21 @@ unfoldable pub digits : ℕ → ℕ → List ℕ
 digits zero v = []
 digits (suc n) v = v % 256 ∷ digits n (v / 256)
 
--- the one place that fixes the byte order: a descriptor from its 8 bytes, and its 8 bytes
-unfoldable pub valueOf : List ℕ → ℕ
-valueOf bytes = number bytes
+-- the one place that fixes the byte order: bytes as they are, or with EE the other way round; so the lowest comes first, or last
+unfoldable pub ordered : Bool → List ℕ → List ℕ
+ordered ee bytes = pick ee (reverse bytes) bytes
 
-unfoldable pub bytesOf : ℕ → List ℕ
-bytesOf v = digits 8 v
+-- a descriptor from its 8 bytes, and its 8 bytes
+unfoldable pub valueOf : Bool → List ℕ → ℕ
+valueOf ee bytes = number (ordered ee bytes)
+
+unfoldable pub bytesOf : Bool → ℕ → List ℕ
+bytesOf ee v = ordered ee (digits 8 v)
 
 -- the descriptor at offset i of a memory
-unfoldable pub desc : List ℕ → ℕ → ℕ
-desc memory i = valueOf (take 8 (drop i memory))
+unfoldable pub desc : Bool → List ℕ → ℕ → ℕ
+desc ee memory i = valueOf ee (take 8 (drop i memory))
 
 -- the memory with the descriptor v at offset i, and every other byte as it was
-unfoldable pub put : List ℕ → ℕ → ℕ → List ℕ
-put memory i v = take i memory ++ bytesOf v ++ drop (i + 8) memory
+unfoldable pub put : Bool → List ℕ → ℕ → ℕ → List ℕ
+put ee memory i v = take i memory ++ bytesOf ee v ++ drop (i + 8) memory

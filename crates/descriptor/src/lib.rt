@@ -1,9 +1,9 @@
 // A descriptor of 8 bytes in lent memory, and the bits of a descriptor.
 ghost use mathlib.Core.Path.{_≡_};
 ghost use Prim.Native.Nat.{_+_, _≤_, _<_, _^_};
-ghost use mathlib.Core.List.{[], _∷_};
+ghost use mathlib.Core.List.{[], _∷_, reverse};
 ghost use lib.ListN.{length};
-ghost use Rattle.descriptor.specs.Bytes.{number, desc, put};
+ghost use Rattle.descriptor.specs.Bytes.{number, digits, valueOf, desc, put};
 ghost use Rattle.descriptor.specs.Bits.{pick, bit as bitOf, field as fieldOf, setBit, clearBit};
 
 // The number in eight bytes, the lowest first. Shifted apart they share no bit: `+` is `|` here.
@@ -20,12 +20,35 @@ fn from_le_bytes(b0: u8, b1: u8, b2: u8, b3: u8, b4: u8, b5: u8, b6: u8, b7: u8)
         + ((b7 as u64) << 56)
 }
 
-// The descriptor at an offset.
-pub fn load(memory: &[u8], at: usize) -> u64
-    requires { ⌜ at + 8 ≤ length (now memory) ⌝ }
-    ensures { λ r. ⌜ r ≡ desc (now (memory .entry)) at ⌝ }
+// v with its 8 bytes the other way round.
+fn swap_bytes(v: u64) -> u64
+    ensures { λ r. ⌜ r ≡ number (reverse (digits 8 v)) ⌝ }
 {
     from_le_bytes(
+        field(v, 56, 8) as u8,
+        field(v, 48, 8) as u8,
+        field(v, 40, 8) as u8,
+        field(v, 32, 8) as u8,
+        field(v, 24, 8) as u8,
+        field(v, 16, 8) as u8,
+        field(v, 8, 8) as u8,
+        field(v, 0, 8) as u8,
+    )
+}
+
+// From little-endian to the order of ee, and back: one swap and one choice for both, no second read.
+fn ordered(v: u64, ee: bool) -> u64
+    ensures { λ r. ⌜ r ≡ valueOf ee (digits 8 v) ⌝ }
+{
+    select(ee, swap_bytes(v), v)
+}
+
+// The descriptor at an offset, big-endian where ee holds.
+pub fn load(memory: &[u8], at: usize, ee: bool) -> u64
+    requires { ⌜ at + 8 ≤ length (now memory) ⌝ }
+    ensures { λ r. ⌜ r ≡ desc ee (now (memory .entry)) at ⌝ }
+{
+    let v = from_le_bytes(
         memory[at],
         memory[at + 1],
         memory[at + 2],
@@ -34,22 +57,24 @@ pub fn load(memory: &[u8], at: usize) -> u64
         memory[at + 5],
         memory[at + 6],
         memory[at + 7],
-    )
+    );
+    ordered(v, ee)
 }
 
-// Writes a descriptor at an offset, and no other byte.
-pub fn store(memory: &mut [u8], at: usize, value: u64)
+// Writes a descriptor at an offset, big-endian where ee holds, and no other byte.
+pub fn store(memory: &mut [u8], at: usize, value: u64, ee: bool)
     requires { ⌜ at + 8 ≤ length (now memory) ⌝ }
-    ensures { λ _. ⌜ now (memory .exit) ≡ put (now (memory .entry)) at value ⌝ }
+    ensures { λ _. ⌜ now (memory .exit) ≡ put ee (now (memory .entry)) at value ⌝ }
 {
-    let v1 = value / 256;
+    let v = ordered(value, ee);
+    let v1 = v / 256;
     let v2 = v1 / 256;
     let v3 = v2 / 256;
     let v4 = v3 / 256;
     let v5 = v4 / 256;
     let v6 = v5 / 256;
     let v7 = v6 / 256;
-    memory[at] = (value % 256) as u8;
+    memory[at] = (v % 256) as u8;
     memory[at + 1] = (v1 % 256) as u8;
     memory[at + 2] = (v2 % 256) as u8;
     memory[at + 3] = (v3 % 256) as u8;

@@ -19,6 +19,22 @@ use Rattle.lookup.specs.declared.Next.{Next}
 use Rattle.lookup.specs.declared.Next.the-variants as next
 use Rattle.lookup.specs.Steps.{invalid, isTable, addressIn, decoded}
 
+-- ---- in the order of the code: bit 0, a table, anything else
+
+pub decoded-unset : (p limit left v : ℕ) → bit 0 v ≡ false → decoded p limit left v ≡ next.Fault Translation
+unfolding decoded invalid
+decoded-unset p limit left v e = rw e
+
+pub decoded-table : (p limit left v : ℕ) → bit 0 v ≡ true → isTable left v ≡ true
+    → decoded p limit left v ≡ pick (leb limit (cut v (pageSize p))) (next.Fault AddressSize) (next.Table (record { 0 = cut v (pageSize p) }))
+unfolding decoded invalid isTable addressIn
+decoded-table p limit left v e t = rw (e, and-true (bit 1 v) (not (eqb left 0)) t .0, and-true (bit 1 v) (not (eqb left 0)) t .1)
+
+pub decoded-other : (p limit left v : ℕ) → bit 0 v ≡ true → isTable left v ≡ false
+    → decoded p limit left v ≡ pick (not (bit 1 v) && not (blockAt p left)) (next.Fault Translation) (pick (leb limit (cut v (span p left))) (next.Fault AddressSize) next.Leaf)
+unfolding decoded invalid addressIn
+decoded-other p limit left v e t = rw (e, t)
+
 -- ---- a leaf
 
 pub record IsLeaf (p limit left v : ℕ) : Type 0 where

@@ -191,10 +191,10 @@ descend-good c read g =
     sum-below (λ left sum t v h z e q d. record { value = q; leads = d; low = h; few = z; aligned = entry-aligned c left t e })
 
 -- a level is one of the four, and a leaf's value stands in the pool
-pub descend-backed : (c : Context) (pool : List ℕ) (base n s t : ℕ) → n ≤ 4 → s < sumCount → Backed pool base (descend c (fetched pool base) n s t .end)
+pub descend-backed : (c : Context) (ee : Bool) (pool : List ℕ) (base n s t : ℕ) → n ≤ 4 → s < sumCount → Backed ee pool base (descend c (fetched ee pool base) n s t .end)
 unfolding levelOf
-descend-backed c pool base n s t h z =
-    descend-end c (fetched pool base) (λ s. s < sumCount) (λ t. Unit {0}) (Backed pool base) (λ kind left h. omega arith) (λ left v table d. tt) sum-below (λ left sum t v h z e q d. (h, z, q)) n s t h z tt
+descend-backed c ee pool base n s t h z =
+    descend-end c (fetched ee pool base) (λ s. s < sumCount) (λ t. Unit {0}) (Backed ee pool base) (λ kind left h. omega arith) (λ left v table d. tt) sum-below (λ left sum t v h z e q d. (h, z, q)) n s t h z tt
 
 pub context-paged : (r : Regime) (a : ℕ) → Paged (contextOf r a .page)
 unfolding contextOf
@@ -211,9 +211,9 @@ hpd-good c read hpd (leaf a l) g = record {
   aligned = g .aligned;
 }
 
-hpd-backed : (pool : List ℕ) (base : ℕ) (hpd : Bool) (e : End) → Backed pool base e → Backed pool base (endUnderHpd hpd e)
-hpd-backed pool base hpd (fault kind level) g = g
-hpd-backed pool base hpd (leaf a l) g = (g .0, pick-both (λ (s : ℕ). s < sumCount) hpd 0 (l .tables) (lit< tt) (g .1), g .2)
+hpd-backed : (ee : Bool) (pool : List ℕ) (base : ℕ) (hpd : Bool) (e : End) → Backed ee pool base e → Backed ee pool base (endUnderHpd hpd e)
+hpd-backed ee pool base hpd (fault kind level) g = g
+hpd-backed ee pool base hpd (leaf a l) g = (g .0, pick-both (λ (s : ℕ). s < sumCount) hpd 0 (l .tables) (lit< tt) (g .1), g .2)
 
 pub locate-good : (r : Regime) (read : ℕ → Word) (a : ℕ) → Sized r → rangeOf r a .root .0 % 8 ≡ 0 → Good (contextOf r a) read (locate r read a .end)
 unfolding lookup locate
@@ -228,31 +228,31 @@ locate-good r read a z e =
     (pick-both good beyond (ended (fault AddressSize 0)) deep tt
     (descend-good c read (context-paged r a) (suc (firstLeft pageBits (range .tsz))) noTables (range .root .0) (suc-le-suc (first-le pageBits (range .tsz) paged (range-least r a z))) (lit< tt) e)))
 
-pub locate-backed : (r : Regime) (pool : List ℕ) (base a : ℕ) → Sized r → Backed pool base (locate r (fetched pool base) a .end)
+pub locate-backed : (r : Regime) (ee : Bool) (pool : List ℕ) (base a : ℕ) → Sized r → Backed ee pool base (locate r (fetched ee pool base) a .end)
 unfolding lookup locate
-locate-backed r pool base a z =
+locate-backed r ee pool base a z =
     let range = rangeOf r a in
-    let deep = descend (contextOf r a) (fetched pool base) (suc (firstLeft pageBits (range .tsz))) noTables (range .root .0) in
-    let backed : Trace → Type 0 = λ t. Backed pool base (t .end) in
+    let deep = descend (contextOf r a) (fetched ee pool base) (suc (firstLeft pageBits (range .tsz))) noTables (range .root .0) in
+    let backed : Trace → Type 0 = λ t. Backed ee pool base (t .end) in
     let beyond = leb (outputLimit (r .output)) (range .root .0) in
-    hpd-backed pool base (range .hpd) (lookup r (fetched pool base) a .end)
+    hpd-backed ee pool base (range .hpd) (lookup r (fetched ee pool base) a .end)
     (pick-both backed (range .disabled || outside (range .tsz) a) (ended (fault Translation 0)) (pick beyond (ended (fault AddressSize 0)) deep) (lit≤ tt)
     (pick-both backed beyond (ended (fault AddressSize 0)) deep (lit≤ tt)
-    (descend-backed (contextOf r a) pool base (suc (firstLeft pageBits (range .tsz))) noTables (range .root .0) (suc-le-suc (first-le pageBits (range .tsz) paged (range-least r a z))) (lit< tt))))
+    (descend-backed (contextOf r a) ee pool base (suc (firstLeft pageBits (range .tsz))) noTables (range .root .0) (suc-le-suc (first-le pageBits (range .tsz) paged (range-least r a z))) (lit< tt))))
 
 -- ---- the reader over a pool
 
 -- a value that was read lies wholly in the pool, and is the descriptor there
-pub record InPool (pool : List ℕ) (base a v : ℕ) : Type 0 where
+pub record InPool (ee : Bool) (pool : List ℕ) (base a v : ℕ) : Type 0 where
   pub least : base ≤ a
   pub most : a + 8 ≤ base + length pool
-  pub same : desc pool (a - base) ≡ v
+  pub same : desc ee pool (a - base) ≡ v
 
-pub in-pool : (pool : List ℕ) (base a v : ℕ) → fetched pool base a ≡ Value v → InPool pool base a v
+pub in-pool : (ee : Bool) (pool : List ℕ) (base a v : ℕ) → fetched ee pool base a ≡ Value v → InPool ee pool base a v
 unfolding fetched
-in-pool pool base a v e = by (leb base a && leb (a + 8) (base + length pool)) refl e
+in-pool ee pool base a v e = by (leb base a && leb (a + 8) (base + length pool)) refl e
   where
-    by : (b : Bool) → (leb base a && leb (a + 8) (base + length pool)) ≡ b → pick b (Value (desc pool (a - base))) Unreachable ≡ Value v → InPool pool base a v
+    by : (b : Bool) → (leb base a && leb (a + 8) (base + length pool)) ≡ b → pick b (Value (desc ee pool (a - base))) Unreachable ≡ Value v → InPool ee pool base a v
     by true h q =
         let t = and-true (leb base a) (leb (a + 8) (base + length pool)) h in
         record { least = leb-true base a (t .0); most = leb-true (a + 8) (base + length pool) (t .1); same = cc }

@@ -1,5 +1,6 @@
 -- How a lookup ends as one number, which passes from level to level in a register. A form of the code: no rule speaks of it.
 use Prim.Native.Nat.{ℕ, suc, _+_, _*_, _≤_, _<_}
+use mathlib.Core.Bool.{Bool}
 use mathlib.Core.List.{List, [], _∷_}
 use mathlib.Core.Path.{_≡_}
 use lib.ListN.{length, getD}
@@ -45,13 +46,13 @@ endLevel (fault kind level) = level
 endLevel (leaf a l) = levelOf (l .left)
 
 -- an end at one of the four levels; a leaf's sum has four bits, and its value stands at its address in the pool
-abbrev pub Backed : List ℕ → ℕ → End → Type 0
-Backed pool base (fault kind level) = level ≤ 3
-Backed pool base (leaf a l) = (l .left ≤ 3) × (l .tables < sumCount) × (fetched pool base a ≡ Value (l .value))
+abbrev pub Backed : Bool → List ℕ → ℕ → End → Type 0
+Backed ee pool base (fault kind level) = level ≤ 3
+Backed ee pool base (leaf a l) = (l .left ≤ 3) × (l .tables < sumCount) × (fetched ee pool base a ≡ Value (l .value))
 
 -- a lookup over the pool that the number n stands for: one descriptor was visited at each level, from the first on
-pub record Packs (pool : List ℕ) (base first n : ℕ) : Type 0 where
+pub record Packs (ee : Bool) (pool : List ℕ) (base first n : ℕ) : Type 0 where
   pub trace : Trace
   pub same : n ≡ packed trace
   pub reads : length (trace .visited) + first ≡ suc (endLevel (trace .end))
-  pub end : Backed pool base (trace .end)
+  pub end : Backed ee pool base (trace .end)

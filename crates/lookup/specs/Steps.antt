@@ -43,9 +43,13 @@ decoded p limit left v =
 
 -- ---- step 3: reading a descriptor
 
--- the value at an address, where the descriptor lies wholly in the pool
-unfoldable pub fetched : List ℕ → ℕ → ℕ → Word
-fetched pool base a = pick (leb base a && leb (a + 8) (base + length pool)) (Value (desc pool (a - base))) Unreachable
+-- the value at an address, in the byte order of ee, where the descriptor lies wholly in the pool
+unfoldable pub fetched : Bool → List ℕ → ℕ → ℕ → Word
+fetched ee pool base a = pick (leb base a && leb (a + 8) (base + length pool)) (Value (desc ee pool (a - base))) Unreachable
+
+-- what a regime reads of its pool
+abbrev pub poolReader : Regime → List ℕ → ℕ → Word
+poolReader r pool = fetched (r .ee) pool (r .pool .address .0)
 
 -- ---- one level: its entry is read, and followed
 

@@ -5,7 +5,7 @@ ghost use Rattle.vmsa.specs.Limits.{addressLimit, tszLeast, tszMost, Sized};
 ghost use Rattle.vmsa.specs.Fields.{tableBits, sumCount};
 ghost use Rattle.geometry.specs.Geometry.{levelOf, Paged};
 ghost use Rattle.lookup.specs.Trace.{fault, ended, underHpd, shown};
-ghost use Rattle.lookup.specs.Steps.{invalid as invalidAt, isTable, addressIn, decoded, Sound, fetched, context, entryAt, followed, descend, upper as upperAt, rangeOf, outside as outsideAt, locate as locateAt};
+ghost use Rattle.lookup.specs.Steps.{isTable, decoded, Sound, fetched, context, entryAt, followed, descend, upper as upperAt, rangeOf, outside as outsideAt, locate as locateAt};
 ghost use Rattle.lookup.specs.Packing.{kindNumber, kindNumbered, joined, packed, Packs};
 use vmsa::FaultKind;
 use vmsa::Leaf;
@@ -113,52 +113,40 @@ fn pack(left: u8, number: u64, sum: u64, address: PhysAddr) -> u64
     geometry::level(left) as u64 + LEVELS * end
 }
 
-fn invalid(p: u8, left: u8, v: u64) -> bool
-    requires { ⌜ Paged p × (left ≤ 3) ⌝ }
-    ensures { λ r. ⌜ r ≡ invalidAt p left v ⌝ }
-{
-    !descriptor::bit(v, 0) | !descriptor::bit(v, 1) & !geometry::block_at(p, left)
-}
-
 fn is_table(left: u8, v: u64) -> bool
     ensures { λ r. ⌜ r ≡ isTable left v ⌝ }
 {
     descriptor::bit(v, 1) & !(left == 0)
 }
 
-// The address in a descriptor: a table's, or the output address of a leaf.
-fn address_in(p: u8, left: u8, v: u64) -> PhysAddr
-    requires { ⌜ Paged p × (left ≤ 3) ⌝ }
-    ensures { λ r. ⌜ (r .0 ≡ addressIn p left v) × (r .0 < addressLimit) ⌝ }
-{
-    if is_table(left, v) {
-        return PhysAddr(geometry::cut(v, geometry::page_size(p)));
-    }
-    PhysAddr(geometry::cut(v, geometry::span(p, left)))
-}
-
-// Steps 4 and 5: what the descriptor v says at a level.
+// Steps 4 and 5: what the descriptor v says at a level. A table is asked for first, since most descriptors on a way are tables.
 pub fn decode(p: u8, limit: PhysAddr, left: u8, v: u64) -> Next
     requires { ⌜ Paged p × (left ≤ 3) ⌝ }
     ensures { λ r. ⌜ (r ≡ decoded p (limit .0) left v) × Sound left r ⌝ }
 {
-    if invalid(p, left, v) {
+    if !descriptor::bit(v, 0) {
         return Next::Fault(FaultKind::Translation);
     }
-    let address = address_in(p, left, v);
-    if limit.0 <= address.0 {
-        return Next::Fault(FaultKind::AddressSize);
-    }
     if is_table(left, v) {
-        return Next::Table(address);
+        let table = PhysAddr(geometry::cut(v, geometry::page_size(p)));
+        if limit.0 <= table.0 {
+            return Next::Fault(FaultKind::AddressSize);
+        }
+        return Next::Table(table);
+    }
+    if !descriptor::bit(v, 1) & !geometry::block_at(p, left) {
+        return Next::Fault(FaultKind::Translation);
+    }
+    if limit.0 <= geometry::cut(v, geometry::span(p, left)) {
+        return Next::Fault(FaultKind::AddressSize);
     }
     Next::Leaf
 }
 
-// Step 3: the descriptor at an address, in a pool whose first byte has the address base.
-pub fn fetch(pool: &[u8], base: PhysAddr, at: PhysAddr) -> Word
+// Step 3: the descriptor at an address, in a pool whose first byte has the address base; big-endian where ee holds.
+pub fn fetch(pool: &[u8], base: PhysAddr, at: PhysAddr, ee: bool) -> Word
     requires { ⌜ at .0 < 2 ^ 49 ⌝ }
-    ensures { λ r. ⌜ r ≡ fetched (now (pool .entry)) (base .0) (at .0) ⌝ }
+    ensures { λ r. ⌜ r ≡ fetched ee (now (pool .entry)) (base .0) (at .0) ⌝ }
 {
     if at.0 < base.0 {
         return Word::Unreachable;
@@ -167,7 +155,7 @@ pub fn fetch(pool: &[u8], base: PhysAddr, at: PhysAddr) -> Word
     if pool.len() < offset + 8 {
         return Word::Unreachable;
     }
-    Word::Value(descriptor::load(pool, offset))
+    Word::Value(descriptor::load(pool, offset, ee))
 }
 
 // The address of a table's entry at a level.
@@ -186,19 +174,20 @@ fn table_bits(v: u64) -> u64
     descriptor::field(v, vmsa::TABLE_START, vmsa::TABLE_WIDTH)
 }
 
-// Reads the entry of a table, and follows it. met is the descriptors of the tables on the way, or-ed: its bits 62 to 59 are their sum, the others have no say.
+// Reads the entry of a table, and follows it. What changes from level to level comes first, in registers; docs/PERFORMANCE.md has the reason. met is the descriptors of the tables on the way, or-ed: its bits 62 to 59 are their sum, the others have no say.
 fn enter(
     pool: &[u8],
-    base: PhysAddr,
-    limit: PhysAddr,
-    input: VirtAddr,
-    page: u8,
     table: PhysAddr,
+    input: VirtAddr,
     left: u8,
+    base: PhysAddr,
+    ee: bool,
+    page: u8,
+    limit: PhysAddr,
     met: u64,
 ) -> u64
     requires { ⌜ Paged page × (left ≤ 3) × (table .0 < addressLimit) ⌝ }
-    ensures { λ n. ⌜ n ≡ packed (descend (context base limit input page) (fetched (now (pool .entry)) (base .0)) (suc left) (tableBits met) (table .0)) ⌝ }
+    ensures { λ n. ⌜ n ≡ packed (descend (context base limit input page) (fetched ee (now (pool .entry)) (base .0)) (suc left) (tableBits met) (table .0)) ⌝ }
 {
     let c = Context {
         base: base,
@@ -207,38 +196,39 @@ fn enter(
         page: page,
     };
     let at = entry_at(c, left, table);
-    let Word::Value(v) = fetch(pool, base, at) else {
+    let Word::Value(v) = fetch(pool, base, at, ee) else {
         return pack(left, kind_number(FaultKind::ExternalAbort), 0, PhysAddr(0));
     };
-    follow(pool, base, limit, input, page, at, v, left, met)
+    follow(pool, at, input, left, base, ee, page, limit, met, v)
 }
 
 // Decodes the descriptor v at an address, and descends at a table.
 fn follow(
     pool: &[u8],
-    base: PhysAddr,
-    limit: PhysAddr,
-    input: VirtAddr,
-    page: u8,
     at: PhysAddr,
-    v: u64,
+    input: VirtAddr,
     left: u8,
+    base: PhysAddr,
+    ee: bool,
+    page: u8,
+    limit: PhysAddr,
     met: u64,
+    v: u64,
 ) -> u64
     requires { ⌜ Paged page × (left ≤ 3) × (at .0 < 2 ^ 49) ⌝ }
-    ensures { λ n. ⌜ n ≡ packed (followed (context base limit input page) (descend (context base limit input page) (fetched (now (pool .entry)) (base .0)) left) (tableBits met) left (at .0) v) ⌝ }
+    ensures { λ n. ⌜ n ≡ packed (followed (context base limit input page) (descend (context base limit input page) (fetched ee (now (pool .entry)) (base .0)) left) (tableBits met) left (at .0) v) ⌝ }
 {
     match decode(page, limit, left, v) {
         Next::Fault(kind) => pack(left, kind_number(kind), 0, PhysAddr(0)),
-        Next::Table(table) => enter(pool, base, limit, input, page, table, left - 1, met | v),
+        Next::Table(table) => enter(pool, table, input, left - 1, base, ee, page, limit, met | v),
         Next::Leaf => pack(left, LEAF, table_bits(met), at),
     }
 }
 
 // A packed lookup over the pool, taken apart: a read for each level from the first on, the leaf read again, and the tables' sum where HPD is off.
-fn unpack(pool: &[u8], base: PhysAddr, hpd: bool, first: u8, n: u64) -> Located
-    requires { ⌜ Packs (now pool) (base .0) first n ⌝ }
-    ensures { λ r. ⌜ ((p : Packs (now (pool .entry)) (base .0) first n) → r ≡ shown 0 (underHpd hpd (p .trace))) ⌝ }
+fn unpack(pool: &[u8], ee: bool, base: PhysAddr, hpd: bool, first: u8, n: u64) -> Located
+    requires { ⌜ Packs ee (now pool) (base .0) first n ⌝ }
+    ensures { λ r. ⌜ ((p : Packs ee (now (pool .entry)) (base .0) first n) → r ≡ shown 0 (underHpd hpd (p .trace))) ⌝ }
 {
     let level = (n % LEVELS) as u8;
     let reads = level + 1 - first;
@@ -255,7 +245,7 @@ fn unpack(pool: &[u8], base: PhysAddr, hpd: bool, first: u8, n: u64) -> Located
         reads: reads,
         address: PhysAddr(address),
         leaf: Leaf {
-            value: descriptor::load(pool, (address - base.0) as usize),
+            value: descriptor::load(pool, (address - base.0) as usize, ee),
             left: geometry::level(level),
             tables: descriptor::select(hpd, 0, sum) as u8,
         },
@@ -287,7 +277,7 @@ pub fn outside(t: u8, a: VirtAddr) -> bool
 // Steps 1 to 5.
 pub fn locate(pool: &[u8], r: Regime, a: VirtAddr) -> Located
     requires { ⌜ Sized r ⌝ }
-    ensures { λ l. ⌜ l ≡ shown 0 (locateAt r (fetched (now (pool .entry)) (r .pool .address .0)) (a .0)) ⌝ }
+    ensures { λ l. ⌜ l ≡ shown 0 (locateAt r (fetched (r .ee) (now (pool .entry)) (r .pool .address .0)) (a .0)) ⌝ }
 {
     let range = range_of(r, a);
     let t = range.tsz;
@@ -302,6 +292,16 @@ pub fn locate(pool: &[u8], r: Regime, a: VirtAddr) -> Located
     let base = r.pool.address;
     let input = VirtAddr(a.0 % descriptor::power(64 - t));
     let left = geometry::first_left(vmsa::PAGE_BITS, t);
-    let n = enter(pool, base, limit, input, vmsa::PAGE_BITS, root, left, 0);
-    unpack(pool, base, range.hpd, geometry::level(left), n)
+    let n = enter(
+        pool,
+        root,
+        input,
+        left,
+        base,
+        r.ee,
+        vmsa::PAGE_BITS,
+        limit,
+        0,
+    );
+    unpack(pool, r.ee, base, range.hpd, geometry::level(left), n)
 }

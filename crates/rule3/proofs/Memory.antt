@@ -29,7 +29,7 @@ use Rattle.checks.proofs.Accept.{clear, Pooled, pooled, Addressed, addressed}
 use Rattle.lookup.specs.declared.Word.{Word}
 use Rattle.lookup.specs.declared.Word.the-variants.{Value, Unreachable}
 use Rattle.lookup.specs.Trace.{End, fault, leaf, Trace}
-use Rattle.lookup.specs.Steps.{decoded, fetched, contextOf, rangeOf, locate}
+use Rattle.lookup.specs.Steps.{decoded, fetched, poolReader, contextOf, rangeOf, locate}
 use Rattle.lookup.proofs.Decoding.{Alike, decoded-same, aligned8}
 use Rattle.lookup.proofs.Reach.{context-paged, locate-read}
 use Rattle.lookup.proofs.Readers.{AlikeWords, unreachable, values, AlikeEnds, faults, leaves, AlikeTraces, locate-alike}
@@ -51,7 +51,7 @@ pub reads : (r : Regime) (m : List ℕ) (p : ℕ) {at : ℕ} {u : Leaf} {n : ℕ
 unfolding traced
 reads r m p q =
     let w = where-found r m p q in
-    rw (w .count) at (locate-read r (fetched (poolBytes (r .pool) m) (r .pool .address .0)) (p * pageSize pageBits) (w .end))
+    rw (w .count) at (locate-read r (poolReader r (poolBytes (r .pool) m)) (p * pageSize pageBits) (w .end))
 
 pub one : (r : Regime) (m : List ℕ) (p q : ℕ) {at : ℕ} {u v : Leaf} {n k : ℕ} → located r m p ≡ foundAt at u n → located r m q ≡ foundAt at v k → u .value ≡ v .value
 one r m p q e f =
@@ -60,7 +60,7 @@ one r m p q e f =
     let a = in-the-pool r m p x .inside in
     let b = in-the-pool r m q y .inside in
     let s : x .address - r .pool .address .0 ≡ y .address - r .pool .address .0 = (let z : offsetOf r (x .address) ≡ offsetOf r (y .address) = x .offset ∙ sym (y .offset) in omega arith) in
-    sym (a .same) ∙ ap (desc (poolBytes (r .pool) m)) s ∙ b .same
+    sym (a .same) ∙ ap (desc (r .ee) (poolBytes (r .pool) m)) s ∙ b .same
 
 -- ---- what acceptance gives
 
@@ -113,31 +113,31 @@ alike-self v = record { bit0 = refl; bit1 = refl; address = refl; tables = refl 
 
 -- ---- a descriptor of the pool updated: the readers before and after
 
-module _ (pool : List ℕ) (base i w : ℕ) (b8 : base % 8 ≡ 0) (i8 : i % 8 ≡ 0) (fits : i + 8 ≤ length pool) (small : w < 2 ^ 64) (unseen : Alike (desc pool i) w) where
+module _ (ee : Bool) (pool : List ℕ) (base i w : ℕ) (b8 : base % 8 ≡ 0) (i8 : i % 8 ≡ 0) (fits : i + 8 ≤ length pool) (small : w < 2 ^ 64) (unseen : Alike (desc ee pool i) w) where
   after : List ℕ
-  after = put pool i w
+  after = put ee pool i w
 
-  value-after : (j : ℕ) → j % 8 ≡ 0 → j + 8 ≤ length pool → desc after j ≡ pick (eqb i j) w (desc pool j)
+  value-after : (j : ℕ) → j % 8 ≡ 0 → j + 8 ≤ length pool → desc ee after j ≡ pick (eqb i j) w (desc ee pool j)
   unfolding after
-  value-after j j8 h = desc-put-aligned pool i w j i8 j8 fits h small
+  value-after j j8 h = desc-put-aligned ee pool i w j i8 j8 fits h small
 
-  alike-at : (j : ℕ) → j % 8 ≡ 0 → j + 8 ≤ length pool → Alike (desc pool j) (desc after j)
+  alike-at : (j : ℕ) → j % 8 ≡ 0 → j + 8 ≤ length pool → Alike (desc ee pool j) (desc ee after j)
   alike-at j j8 h = rw (value-after j j8 h) (by (eqb i j) refl)
     where
-      by : (b : Bool) → eqb i j ≡ b → Alike (desc pool j) (pick b w (desc pool j))
+      by : (b : Bool) → eqb i j ≡ b → Alike (desc ee pool j) (pick b w (desc ee pool j))
       by true e = rw (← eqb-true i j e) unseen
-      by false e = alike-self (desc pool j)
+      by false e = alike-self (desc ee pool j)
 
-  opened : (p : List ℕ) → length p ≡ length pool → (a : ℕ) → fetched p base a ≡ pick (leb base a && leb (a + 8) (base + length pool)) (Value (desc p (a - base))) Unreachable
+  opened : (p : List ℕ) → length p ≡ length pool → (a : ℕ) → fetched ee p base a ≡ pick (leb base a && leb (a + 8) (base + length pool)) (Value (desc ee p (a - base))) Unreachable
   unfolding fetched
   opened p e a = rw e
 
-  alike-words : (a : ℕ) → a % 8 ≡ 0 → AlikeWords Alike (fetched pool base a) (fetched after base a)
+  alike-words : (a : ℕ) → a % 8 ≡ 0 → AlikeWords Alike (fetched ee pool base a) (fetched ee after base a)
   unfolding after
-  alike-words a a8 = rw (opened pool refl a, opened (put pool i w) (length-put pool i w fits) a) (by (leb base a && leb (a + 8) (base + length pool)) refl)
+  alike-words a a8 = rw (opened pool refl a, opened (put ee pool i w) (length-put ee pool i w fits) a) (by (leb base a && leb (a + 8) (base + length pool)) refl)
     where
       by : (b : Bool) → (leb base a && leb (a + 8) (base + length pool)) ≡ b
-          → AlikeWords Alike (pick b (Value (desc pool (a - base))) Unreachable) (pick b (Value (desc after (a - base))) Unreachable)
+          → AlikeWords Alike (pick b (Value (desc ee pool (a - base))) Unreachable) (pick b (Value (desc ee after (a - base))) Unreachable)
       by false e = unreachable
       by true e =
           let t = and-true (leb base a) (leb (a + 8) (base + length pool)) e in
@@ -149,20 +149,20 @@ module _ (pool : List ℕ) (base i w : ℕ) (b8 : base % 8 ≡ 0) (i8 : i % 8 �
 
 -- the pool's bytes after the descriptor at offset i of the pool was updated
 pool-after : (r : Regime) (m : List ℕ) (i w : ℕ) → r .pool .start + r .pool .length ≤ length m → i + 8 ≤ r .pool .length
-    → poolBytes (r .pool) (put m (r .pool .start + i) w) ≡ put (poolBytes (r .pool) m) i w
+    → poolBytes (r .pool) (put (r .ee) m (r .pool .start + i) w) ≡ put (r .ee) (poolBytes (r .pool) m) i w
 pool-after r m i w h k =
     let s = r .pool .start in
     let n = r .pool .length in
     let pool = poolBytes (r .pool) m in
     let l : length pool ≡ n = length-part m s n h in
-    ap (λ (x : List ℕ). take n (drop s x)) (sym (with-put m s n i w true h k))
-    ∙ part-with m (put pool i w) s n h (length-put pool i w (rw l k) ∙ l)
+    ap (λ (x : List ℕ). take n (drop s x)) (sym (with-put (r .ee) m s n i w true h k))
+    ∙ part-with m (put (r .ee) pool i w) s n h (length-put (r .ee) pool i w (rw l k) ∙ l)
 
 -- how two traces end, in the memory before and after: the leaf at the updated descriptor has the new value
 module _ (r : Regime) (pool : List ℕ) (i w : ℕ) (b8 : r .pool .address .0 % 8 ≡ 0) (i8 : i % 8 ≡ 0) (fits : i + 8 ≤ length pool) (small : w < 2 ^ 64)
-    (unseen : Alike (desc pool i) w) (u : usable r ≡ true) (x : ℕ) where
+    (unseen : Alike (desc (r .ee) pool i) w) (u : usable r ≡ true) (x : ℕ) where
   abbrev later : List ℕ
-  later = put pool i w
+  later = put (r .ee) pool i w
 
   traces : AlikeTraces Alike (traced r pool x) (traced r later x)
   unfolding traced after
@@ -170,18 +170,18 @@ module _ (r : Regime) (pool : List ℕ) (i w : ℕ) (b8 : r .pool .address .0 % 
       locate-alike Alike r x
       (λ left v y k. sym (decoded-same (contextOf r x .page) (contextOf r x .limit .0) left v y (context-paged r x .least) k))
       (λ v y k. sym (k .tables))
-      (fetched pool (r .pool .address .0)) (fetched later (r .pool .address .0)) (alike-words pool (r .pool .address .0) i w b8 i8 fits small unseen) (usable-root r x u)
+      (poolReader r pool) (poolReader r later) (alike-words (r .ee) pool (r .pool .address .0) i w b8 i8 fits small unseen) (usable-root r x u)
 
   spot-by : (n : ℕ) {e f : End} → AlikeEnds Alike e f → traced r pool x .end ≡ e → traced r later x .end ≡ f
       → spotAt r n f ≡ restamped (r .pool .start + i) w (spotAt r n e)
   spot-by n (faults kind level) p q = refl
   spot-by n (leaves a left sum {v = v} {w = y} k) p q =
       let g = found r pool x a (record { value = v; left = left; tables = sum }) (usable-sized r u) (usable-root r x u) p in
-      let h = found r (put pool i w) x a (record { value = y; left = left; tables = sum }) (usable-sized r u) (usable-root r x u) q in
+      let h = found r (put (r .ee) pool i w) x a (record { value = y; left = left; tables = sum }) (usable-sized r u) (usable-root r x u) q in
       let j = a - r .pool .address .0 in
       let jl : j + 8 ≤ length pool = omega (arith, g .inside .least, g .inside .most) in
       let j8 : j % 8 ≡ 0 = omega (arith, g .reached .aligned, g .inside .least) in
-      let val : y ≡ pick (eqb i j) w v = sym (h .inside .same) ∙ desc-put-aligned pool i w j i8 j8 fits jl small ∙ rw (g .inside .same) in
+      let val : y ≡ pick (eqb i j) w v = sym (h .inside .same) ∙ desc-put-aligned (r .ee) pool i w j i8 j8 fits jl small ∙ rw (g .inside .same) in
       by j (eqb i j) refl val
     where
       test : (j : ℕ) (b : Bool) → eqb i j ≡ b → eqb (r .pool .start + j) (r .pool .start + i) ≡ b
@@ -212,11 +212,11 @@ marked-where r m s q f d {u = u} y p =
     let b8 : r .pool .address .0 % 8 ≡ 0 = aligned8 pageBits (r .pool .address .0) paged (aligned-zero (r .pool .address .0) (accepted-address r (s .regime) .aligned)) in
     let i8 : i % 8 ≡ 0 = omega (arith, g .reached .aligned, g .inside .least) in
     let room : i + 8 ≤ length pool = omega (arith, g .inside .least, g .inside .most) in
-    let value : desc pool i ≡ u .value = g .inside .same in
+    let value : desc (r .ee) pool i ≡ u .value = g .inside .same in
     let bytes = bytes-take (drop (r .pool .start) m) (r .pool .length) (bytes-drop m (r .pool .start) (s .bytes)) in
-    let small : v < 2 ^ 64 = updated-small (u .value) f d (rw (← value) (desc-small pool i bytes)) in
-    let unseen : Alike (desc pool i) v = rw value (alike-updated f d (u .value)) in
-    let mem : poolBytes (r .pool) (putWord ours r m (offsetOf r (y .address)) v) ≡ put pool i v =
+    let small : v < 2 ^ 64 = updated-small (u .value) f d (rw (← value) (desc-small (r .ee) pool i bytes)) in
+    let unseen : Alike (desc (r .ee) pool i) v = rw value (alike-updated f d (u .value)) in
+    let mem : poolBytes (r .pool) (putWord ours r m (offsetOf r (y .address)) v) ≡ put (r .ee) pool i v =
     ap (poolBytes (r .pool)) (put-is r m (offsetOf r (y .address)) v) ∙ pool-after r m i v fits (rw (← l) room) in
     rw (y .regime, mem) (spot-after r pool i v b8 i8 room small unseen (y .regime) (p * pageSize pageBits))
 

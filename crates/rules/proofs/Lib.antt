@@ -5,6 +5,7 @@ pub mod Updates
 pub mod Tables
 pub mod Restricted
 pub mod Walks
+pub mod Orders
 pub mod Rule1
 pub mod Rule2
 pub mod Calls

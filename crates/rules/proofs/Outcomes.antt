@@ -69,7 +69,7 @@ decision-at r a l reads o q = subst (Decided r a l reads (decision r a l reads))
 module _ (r : Regime) (a : Access) (pool : List ℕ) where
   -- a leaf none of whose steps fails
   pub leaf-passes : (address : ℕ) (l : Leaf) → traced r pool (a .address .0) .end ≡ leaf address l → firstFault (leafSteps r a l) ≡ none
-      → walkPool r a pool ≡ applied pool (address - r .pool .address .0) (passing r a l (length (traced r pool (a .address .0) .visited)))
+      → walkPool r a pool ≡ applied (r .ee) pool (address - r .pool .address .0) (passing r a l (length (traced r pool (a .address .0) .visited)))
   unfolding walkPool
   leaf-passes address l e q =
       let d = decision-at r a l (length (traced r pool (a .address .0) .visited)) none q in

@@ -71,7 +71,7 @@ module _ (r : Regime) (a : Access) (m : List ℕ) where
       taken e none q =
           let l = passed-leaf r a m q in
           let v = updatedLeaf r a (leafIn l) in
-          rw (passed-bytes r a m e q l) (pick-both Bytes (flagDue r a (leafIn l) || dirtyDue r a (leafIn l)) (put m (offset l) v) m (bytes-put m (offset l) v h) h)
+          rw (passed-bytes r a m e q l) (pick-both Bytes (flagDue r a (leafIn l) || dirtyDue r a (leafIn l)) (put (r .ee) m (offset l) v) m (bytes-put (r .ee) m (offset l) v h) h)
       taken e (some f) q = rw (failed-bytes r a m e f q) h
 
       by : (c : Checked) → walkCheck (length m) r a ≡ c → Bytes (walk r a m .bytes)

@@ -26,7 +26,7 @@ use Rattle.vmsa.specs.declared.FaultKind.the-variants.{Permission, Alignment}
 use Rattle.checks.specs.declared.Checked.the-variants.{Accepted}
 use Rattle.checks.specs.Order.{walkCheck}
 use Rattle.lookup.specs.Trace.{End, fault, leaf}
-use Rattle.lookup.specs.Steps.{contextOf, fetched}
+use Rattle.lookup.specs.Steps.{contextOf, poolReader}
 use Rattle.lookup.proofs.Decoding.{is-leaf, output-below}
 use Rattle.lookup.proofs.Reach.{locate-visited}
 use Rattle.permission.specs.Permission.{attributeOf, writable}
@@ -44,6 +44,7 @@ use Rattle.rules.proofs.Outcomes.{endCacheable}
 use Rattle.rules.proofs.Updates.{updated-none, updated-other, updated-af, updated-ap2, updated-small, writes-asks, flag-due, dirty-due, probe-due, leaf-clear, flag-after, write-writable, dirty-after, none-dirty, none-asks, still-writable, leaf-kind}
 use Rattle.rules.proofs.Tables.{sum-four, sum-bit, bare-walk}
 use Rattle.rules.proofs.Restricted.{restricted-steps}
+use Rattle.rules.proofs.Orders.{other-order}
 use Rattle.rules.proofs.Walks.{readsOf, leafIn, told, updatedLeaf, passed-leaf, leaf-first, passed-result, failed-result, failed-bytes, success-taken, fault-taken, success-none, success-leaf, faultOf, fault-some, leaf-found, leaf-placed, success-told, success-bytes}
 
 module _ (r : Regime) (a : Access) (m : List ℕ) where
@@ -70,7 +71,7 @@ module _ (r : Regime) (a : Access) (m : List ℕ) where
 
   reads-most : walkCheck (length m) r a ≡ Accepted → readsOf r a m ≤ 4
   unfolding traced
-  reads-most c = locate-visited r (fetched (poolBytes (r .pool) m) (r .pool .address .0)) (a .address .0) (ready (length m) r a c .sized)
+  reads-most c = locate-visited r (poolReader r (poolBytes (r .pool) m)) (a .address .0) (ready (length m) r a c .sized)
 
   -- ---- faults
 
@@ -161,8 +162,8 @@ module _ (r : Regime) (a : Access) (m : List ℕ) where
       same-bytes i o =
           let v = updatedLeaf r a (leafIn l) in
           rw (success-bytes r a m s e l)
-          (pick-both (λ (x : List ℕ). getD x i 0 ≡ getD m i 0) (flagDue r a (leafIn l) || dirtyDue r a (leafIn l)) (put m (offset l) v) m
-          (getD-put m (offset l) v fits i o) refl)
+          (pick-both (λ (x : List ℕ). getD x i 0 ≡ getD m i 0) (flagDue r a (leafIn l) || dirtyDue r a (leafIn l)) (put (r .ee) m (offset l) v) m
+          (getD-put (r .ee) m (offset l) v fits i o) refl)
 
       -- the leaf's descriptor afterwards, and its bits
       module _ (h : Bytes m) where
@@ -173,11 +174,11 @@ module _ (r : Regime) (a : Access) (m : List ℕ) where
             place = leaf-placed r a m (success-taken r a m s e) l
 
             small : l .value < 2 ^ 64
-            small = rw (← place .value) (desc-small m (offset l) h)
+            small = rw (← place .value) (desc-small (r .ee) m (offset l) h)
 
-            by : (f d : Bool) → desc (pick (f || d) (put m (offset l) (updated f d (l .value))) m) (offset l) ≡ updated f d (l .value)
-            by true d = desc-put m (offset l) (updated true d (l .value)) fits (updated-small (l .value) true d small)
-            by false true = desc-put m (offset l) (updated false true (l .value)) fits (updated-small (l .value) false true small)
+            by : (f d : Bool) → desc (r .ee) (pick (f || d) (put (r .ee) m (offset l) (updated f d (l .value))) m) (offset l) ≡ updated f d (l .value)
+            by true d = desc-put (r .ee) m (offset l) (updated true d (l .value)) fits (updated-small (l .value) true d small)
+            by false true = desc-put (r .ee) m (offset l) (updated false true (l .value)) fits (updated-small (l .value) false true small)
             by false false = place .value ∙ sym (updated-none (l .value))
 
         af-after : af (valueAfter l) ≡ (flagDue r a (leafIn l) || af (l .value))
@@ -233,6 +234,7 @@ rule2 = record {
   restricts = restricted-steps;
   bare = bare-walk;
   readOnly = is-read-only;
+  orders = other-order;
   below = λ r a m s e. output-small r a m s e (success-leaf r a m s e);
   successReads = success-counts;
   faultReads = fault-counts;

@@ -21,7 +21,7 @@ use Rattle.lookup.specs.declared.Word.the-variants.{Value, Unreachable}
 use Rattle.lookup.specs.declared.Next.the-variants as next
 use Rattle.lookup.specs.declared.Context.{Context}
 use Rattle.lookup.specs.Trace.{End, fault, leaf, Trace, ended, endUnderHpd}
-use Rattle.lookup.specs.Steps.{invalid, isTable, addressIn, decoded, fetched, onward, onWord, followed, entryAt, entered, descend, rangeOf, outside, contextOf, lookup, locate}
+use Rattle.lookup.specs.Steps.{invalid, isTable, addressIn, decoded, poolReader, onward, onWord, followed, entryAt, entered, descend, rangeOf, outside, contextOf, lookup, locate}
 use Rattle.walk.specs.Walk.{traced}
 use Rattle.rules.specs.Steps.{Step, step, AllPass, FirstFails, done, pass, here, later, leafSteps, leafUnder, descriptorSteps, entrySteps, levelSteps, walkSteps}
 
@@ -130,7 +130,7 @@ module _ (r : Regime) (a : Access) where
   walk-steps pool =
       let range = rangeOf r (a .address .0) in
       let c = contextOf r (a .address .0) in
-      let read = fetched pool (r .pool .address .0) in
+      let read = poolReader r pool in
       let n = firstLeft pageBits (range .tsz) in
       let root = range .root .0 in
       range-steps (range .disabled || outside (range .tsz) (a .address .0)) (leb (outputLimit (r .output)) root) (levelSteps r a c read (suc n) noTables root)

@@ -87,7 +87,7 @@ module _ (r : Regime) (a : Access) (m : List ℕ) where
         let h = ready (length m) r a c in
         found r (poolBytes (r .pool) m) (a .address .0) (l .address) (leafIn l) (h .sized) (h .root) (l .reached)
 
-    pool-long : length (poolBytes (r .pool) m) ≡ r .pool .length
+    pub pool-long : length (poolBytes (r .pool) m) ≡ r .pool .length
     pool-long = length-part m (r .pool .start) (r .pool .length) (ready (length m) r a c .fits)
 
     leaf-inside : (l : LeafOf r a m) → (r .pool .address .0 ≤ l .address) × (l .address - r .pool .address .0 + 8 ≤ r .pool .length)
@@ -108,7 +108,7 @@ module _ (r : Regime) (a : Access) (m : List ℕ) where
           least = omega arith;
           most = omega arith;
           aligned = omega arith;
-          value = sym (desc-part m (r .pool .start) (r .pool .length) (l .address - r .pool .address .0) (h .pool .fits) (i .1)) ∙ f .inside .same;
+          value = sym (desc-part (r .ee) m (r .pool .start) (r .pool .length) (l .address - r .pool .address .0) (h .pool .fits) (i .1)) ∙ f .inside .same;
         }
 
   -- ---- by the first failing step: where none fails there is a leaf, and it decides
@@ -124,7 +124,7 @@ module _ (r : Regime) (a : Access) (m : List ℕ) where
   leaf-first l = sym (walk-steps r a (poolBytes (r .pool) m) ∙ ap (endFault r a) (l .reached))
 
   passed-pool : firstFault (stepsOf r a m) ≡ none → (l : LeafOf r a m)
-      → walkPool r a (poolBytes (r .pool) m) ≡ applied (poolBytes (r .pool) m) (l .address - r .pool .address .0) (passing r a (leafIn l) (readsOf r a m))
+      → walkPool r a (poolBytes (r .pool) m) ≡ applied (r .ee) (poolBytes (r .pool) m) (l .address - r .pool .address .0) (passing r a (leafIn l) (readsOf r a m))
   passed-pool q l = leaf-passes r a (poolBytes (r .pool) m) (l .address) (leafIn l) (l .reached) (leaf-first l ∙ q)
 
   -- the fault of a step
@@ -143,11 +143,11 @@ module _ (r : Regime) (a : Access) (m : List ℕ) where
     passed-result q l = rw (walk-taken c, passed-pool q l)
 
     pub passed-bytes : firstFault (stepsOf r a m) ≡ none → (l : LeafOf r a m)
-        → walk r a m .bytes ≡ pick (flagDue r a (leafIn l) || dirtyDue r a (leafIn l)) (put m (offset l) (updatedLeaf r a (leafIn l))) m
+        → walk r a m .bytes ≡ pick (flagDue r a (leafIn l) || dirtyDue r a (leafIn l)) (put (r .ee) m (offset l) (updatedLeaf r a (leafIn l))) m
     unfolding passing
     passed-bytes q l =
         rw (walk-taken c, passed-pool q l)
-        (with-put m (r .pool .start) (r .pool .length) (l .address - r .pool .address .0) (updatedLeaf r a (leafIn l)) (flagDue r a (leafIn l) || dirtyDue r a (leafIn l))
+        (with-put (r .ee) m (r .pool .start) (r .pool .length) (l .address - r .pool .address .0) (updatedLeaf r a (leafIn l)) (flagDue r a (leafIn l) || dirtyDue r a (leafIn l))
         (ready (length m) r a c .fits) (leaf-inside c l .1))
 
     -- the walk over the pool leaves as many bytes
@@ -166,8 +166,8 @@ module _ (r : Regime) (a : Access) (m : List ℕ) where
             let i = leaf-inside c l in
             let v = updatedLeaf r a (leafIn l) in
             rw (passed-pool q l)
-            (pick-both (λ (x : List ℕ). length x ≡ r .pool .length) (flagDue r a (leafIn l) || dirtyDue r a (leafIn l)) (put pool at v) pool
-            (length-put pool at v (omega arith) ∙ n) n)
+            (pick-both (λ (x : List ℕ). length x ≡ r .pool .length) (flagDue r a (leafIn l) || dirtyDue r a (leafIn l)) (put (r .ee) pool at v) pool
+            (length-put (r .ee) pool at v (omega arith) ∙ n) n)
         by (some f) q = rw (pool-by r a pool (some f) q) (pool-long c)
 
     -- no walk that is taken refuses
@@ -229,5 +229,5 @@ module _ (r : Regime) (a : Access) (m : List ℕ) where
         cc
 
     pub success-bytes : (l : LeafOf r a m)
-        → walk r a m .bytes ≡ pick (flagDue r a (leafIn l) || dirtyDue r a (leafIn l)) (put m (offset l) (updatedLeaf r a (leafIn l))) m
+        → walk r a m .bytes ≡ pick (flagDue r a (leafIn l) || dirtyDue r a (leafIn l)) (put (r .ee) m (offset l) (updatedLeaf r a (leafIn l))) m
     success-bytes l = passed-bytes success-taken success-none l

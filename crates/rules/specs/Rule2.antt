@@ -25,6 +25,7 @@ use Rattle.lookup.specs.Trace.{leaf}
 use Rattle.permission.specs.Permission.{writable}
 use Rattle.walk.specs.Walk.{walk, poolBytes}
 use Rattle.rules.specs.Steps.{Step, AllPass, FirstFails, leafSteps, walkSteps}
+use Rattle.rules.specs.Orders.{otherOrder, turnedPool, turnedOutcome}
 use Rattle.rules.specs.Tables.{traceOf, TablesOff, TablesClear, InSum, bareWalk, restricted}
 
 -- the steps of an access
@@ -45,7 +46,7 @@ offset {r} l = r .pool .start + (l .address - r .pool .address .0)
 
 -- the value of its descriptor after the walk
 abbrev pub valueAfter : {r : Regime} {a : Access} {m : List ℕ} → LeafOf r a m → ℕ
-valueAfter {r} {a} {m} l = desc (walk r a m .bytes) (offset l)
+valueAfter {r} {a} {m} l = desc (r .ee) (walk r a m .bytes) (offset l)
 
 -- the leaf as the walk left it
 abbrev pub leafAfter : {r : Regime} {a : Access} {m : List ℕ} → LeafOf r a m → Leaf
@@ -64,7 +65,7 @@ pub record Placed {r : Regime} {a : Access} {m : List ℕ} (l : LeafOf r a m) : 
   pub least : r .pool .start ≤ offset l
   pub most : offset l + 8 ≤ r .pool .start + r .pool .length
   pub aligned : offset l % 8 ≡ 0
-  pub value : desc m (offset l) ≡ l .value
+  pub value : desc (r .ee) m (offset l) ≡ l .value
 
 -- the right address and attributes: the leaf's address and the offset in its span, and the leaf's fields
 pub record Right {r : Regime} {a : Access} {m : List ℕ} (l : LeafOf r a m) (s : Success) : Type 0 where
@@ -127,6 +128,8 @@ pub record Rule2 : Type 0 where
   pub bare : (r : Regime) (a : Access) (m : List ℕ) → TablesOff r a ⊎ TablesClear r a m → walk r a m ≡ bareWalk r a m
   -- with bit 62 in the tables' sum, a success asked for no write, and made nothing dirty
   pub readOnly : (r : Regime) (a : Access) (m : List ℕ) (s : Success) → walk r a m .result ≡ success s → InSum 62 r a m → (asksWrite (a .kind) ≡ false) × (s .dirtied ≡ false)
+  -- in the other byte order, over a pool with every descriptor in that order, it is the same walk: the same answer, and the same bytes so turned
+  pub orders : (r : Regime) (a : Access) (m : List ℕ) → walk (otherOrder r) a (turnedPool (r .pool) m) ≡ turnedOutcome (r .pool) (walk r a m)
   -- every output address is below 2 to the output size (RULES 9.4)
   pub below : (r : Regime) (a : Access) (m : List ℕ) (s : Success) → walk r a m .result ≡ success s → s .output .0 < outputLimit (r .output)
   -- the count of reads is the length of the list of descriptor addresses visited, and at most 4 (RULES 9.3): for a success,

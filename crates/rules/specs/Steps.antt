@@ -15,7 +15,7 @@ use Rattle.vmsa.specs.declared.FaultKind.the-variants.{AddressSize, Translation
 use Rattle.lookup.specs.declared.Word.{Word}
 use Rattle.lookup.specs.declared.Word.the-variants.{Value, Unreachable}
 use Rattle.lookup.specs.declared.Context.{Context}
-use Rattle.lookup.specs.Steps.{invalid, isTable, addressIn, fetched, entryAt, rangeOf, outside, contextOf}
+use Rattle.lookup.specs.Steps.{invalid, isTable, addressIn, poolReader, entryAt, rangeOf, outside, contextOf}
 use Rattle.lookup.specs.Trace.{leafUnderHpd}
 use Rattle.permission.specs.Permission.{flagFails, alignmentFails, permissionFails}
 
@@ -72,4 +72,4 @@ walkSteps r a pool =
     let range = rangeOf r (a .address .0) in
     step (range .disabled || outside (range .tsz) (a .address .0)) Translation 0
     ∷ step (leb (outputLimit (r .output)) (range .root .0)) AddressSize 0
-    ∷ levelSteps r a (contextOf r (a .address .0)) (fetched pool (r .pool .address .0)) (suc (firstLeft pageBits (range .tsz))) noTables (range .root .0)
+    ∷ levelSteps r a (contextOf r (a .address .0)) (poolReader r pool) (suc (firstLeft pageBits (range .tsz))) noTables (range .root .0)

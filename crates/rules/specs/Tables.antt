@@ -13,7 +13,7 @@ use Rattle.checks.specs.Order.{walkCheck}
 use Rattle.lookup.specs.declared.Word.{Word}
 use Rattle.lookup.specs.declared.Word.the-variants.{Value}
 use Rattle.lookup.specs.Trace.{End, fault, leaf, Trace}
-use Rattle.lookup.specs.Steps.{fetched, rangeOf, lookup}
+use Rattle.lookup.specs.Steps.{poolReader, rangeOf, lookup}
 use Rattle.walk.specs.Walk.{Outcome, poolBytes, traced, walkAlong, checked}
 
 -- the trace of an access: the list of descriptor addresses visited, and the end, a fault or a leaf; and what stands at a descriptor address of its pool
@@ -21,7 +21,7 @@ abbrev pub traceOf : Regime → Access → List ℕ → Trace
 traceOf r a m = traced r (poolBytes (r .pool) m) (a .address .0)
 
 abbrev pub readerOf : Regime → List ℕ → ℕ → Word
-readerOf r m = fetched (poolBytes (r .pool) m) (r .pool .address .0)
+readerOf r m = poolReader r (poolBytes (r .pool) m)
 
 -- number i of the descriptors visited is a table on the way, that is, not the last, and its value is v
 abbrev pub TableAt : Regime → Access → List ℕ → ℕ → ℕ → Type 0
@@ -47,7 +47,7 @@ abbrev pub bareTrace : Trace → Trace
 bareTrace t = record { visited = t .visited; end = bareEnd (t .end) }
 
 abbrev pub barePool : Regime → Access → List ℕ → Outcome
-barePool r a pool = walkAlong r a pool (bareTrace (lookup r (fetched pool (r .pool .address .0)) (a .address .0)))
+barePool r a pool = walkAlong r a pool (bareTrace (lookup r (poolReader r pool) (a .address .0)))
 
 unfoldable pub bareWalk : Regime → Access → List ℕ → Outcome
 bareWalk r a m = checked (barePool r a) (r .pool) m (walkCheck (length m) r a)

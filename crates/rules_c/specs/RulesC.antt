@@ -24,6 +24,7 @@ use Rattle.walk.specs.Walk.{poolBytes}
 use Rattle.rules.specs.Rule1.{FirstNumber, Managed}
 use Rattle.rules.specs.Steps.{AllPass, FirstFails}
 use Rattle.rules.specs.Tables.{traceOf, TablesOff, TablesClear, InSum, bareWalk}
+use Rattle.rules.specs.Orders.{otherOrder, turnedPool}
 use Rattle.rules.specs.Rule2.{stepsOf, LeafOf, offset, Placed, Right, FlagUpdate, DirtyUpdate, SumOf}
 use Rattle.tlb.specs.Walker.{noRegime}
 use Rattle.tlb.specs.Ours.{ours}
@@ -74,21 +75,23 @@ module _ (m : List ℕ) (g : RegimeWords) (a : AccessWords) (m′ : List ℕ) (w
     pub below : w .tag ≡ 0 → w .output < outputLimit (R .output)
     -- it changes at most bits 10 and 7 of that leaf's descriptor, where those updates are switched on; a probe changes nothing
     pub bytes : w .tag ≡ 0 → Bytes m → (l : LeafOf R A m) (i : ℕ) → (i < offset l) ⊎ (offset l + 8 ≤ i) → getD m′ i 0 ≡ getD m i 0
-    pub bits : w .tag ≡ 0 → Bytes m → (l : LeafOf R A m) (n : ℕ) → n ≢ 10 → n ≢ 7 → bit n (desc m′ (offset l)) ≡ bit n (l .value)
+    pub bits : w .tag ≡ 0 → Bytes m → (l : LeafOf R A m) (n : ℕ) → n ≢ 10 → n ≢ 7 → bit n (desc (R .ee) m′ (offset l)) ≡ bit n (l .value)
     pub marks : w .tag ≡ 0 → Bytes m → (l : LeafOf R A m)
-        → FlagUpdate R A (l .value) (desc m′ (offset l)) (flag (w .accessed)) × DirtyUpdate R A (l .value) (desc m′ (offset l)) (flag (w .dirtied))
+        → FlagUpdate R A (l .value) (desc (R .ee) m′ (offset l)) (flag (w .accessed)) × DirtyUpdate R A (l .value) (desc (R .ee) m′ (offset l)) (flag (w .dirtied))
     pub probe : w .tag ≡ 0 → Bytes m → LeafOf R A m → isProbe (A .kind) ≡ true → m′ ≡ m
     -- AF is 1 afterwards, but for a probe; a written page ends writable, too, by W and by its AP[2]
-    pub accessed : w .tag ≡ 0 → Bytes m → (l : LeafOf R A m) → isProbe (A .kind) ≡ false → af (desc m′ (offset l)) ≡ true
+    pub accessed : w .tag ≡ 0 → Bytes m → (l : LeafOf R A m) → isProbe (A .kind) ≡ false → af (desc (R .ee) m′ (offset l)) ≡ true
     pub written : w .tag ≡ 0 → Bytes m → writes (A .kind) ≡ true → (l : LeafOf R A m)
-        → (af (desc m′ (offset l)) ≡ true) × (ap2 (desc m′ (offset l)) ≡ false) × (writable R (record { value = desc m′ (offset l); left = l .left; tables = l .tables }) ≡ true)
+        → (af (desc (R .ee) m′ (offset l)) ≡ true) × (ap2 (desc (R .ee) m′ (offset l)) ≡ false) × (writable R (record { value = desc (R .ee) m′ (offset l); left = l .left; tables = l .tables }) ≡ true)
     -- where HPD is on, or no table on the way has one of bits 62 to 59, it is as by the rules in which they have no say
     pub bare : TablesOff R A ⊎ TablesClear R A m → (w ≡ wordsOf (bareWalk R A m .result)) × (m′ ≡ bareWalk R A m .bytes)
     -- a leaf's sum is that of the tables on the way; with bit 62 in it a success asked for no write, and made nothing dirty
     pub sum : (l : LeafOf R A m) → SumOf l
     pub readOnly : w .tag ≡ 0 → InSum 62 R A m → (asksWrite (A .kind) ≡ false) × (flag (w .dirtied) ≡ false)
+    -- a call with the other byte order, over the memory with every descriptor of the pool in that order, gave the same answer, and left the same bytes so turned
+    pub orders : (h : RegimeWords) (n′ : List ℕ) (x : AnswerWords) → regimeOf h ≡ otherOrder R → WalkSays (turnedPool (R .pool) m) h a n′ x → (w ≡ x) × (n′ ≡ turnedPool (R .pool) m′)
     -- a success may be remembered where AF is 1 afterwards; a fault, where a leaf with AF 1 was reached and step 7 or 8 failed
-    pub cacheable : w .tag ≡ 0 → Bytes m → (l : LeafOf R A m) → flag (w .cacheable) ≡ af (desc m′ (offset l))
+    pub cacheable : w .tag ≡ 0 → Bytes m → (l : LeafOf R A m) → flag (w .cacheable) ≡ af (desc (R .ee) m′ (offset l))
     pub fault-cacheable : w .tag ≡ 1
         → (flag (w .cacheable) ≡ true)
         ↔ ((l : LeafOf R A m) × (af (l .value) ≡ true) × (FirstFails (stepsOf R A m) Alignment (levelOf (l .left)) ⊎ FirstFails (stepsOf R A m) Permission (levelOf (l .left))))

@@ -35,7 +35,8 @@ regimeSpare0 g = record {
   wxn = g .wxn;
   hpd0 = g .hpd0;
   hpd1 = g .hpd1;
-  spare16 = 0;
+  ee = g .ee;
+  spare8 = 0;
   spare32 = 0;
 }
 

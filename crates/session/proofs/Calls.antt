@@ -86,13 +86,13 @@ store-accepted n pool address e =
     record { fits = pooled n pool (c .0) .fits; aligned = s .0; least = s .1; most = s .2 }
 
 pub stored : (r : Regime) (m : List ℕ) (address value : ℕ) → Storable (length m) (r .pool) address → (x : List ℕ) (k : ℕ) → k ≡ r .pool .length
-    → x ≡ put (take k (drop (r .pool .start) m)) (address - r .pool .address .0) value
+    → x ≡ put (r .ee) (take k (drop (r .pool .start) m)) (address - r .pool .address .0) value
     → take (r .pool .start) m ++ (x ++ drop k (drop (r .pool .start) m)) ≡ putWord ours r m (offsetOf r address) value
 stored r m address value h x k q e =
     let i = address - r .pool .address .0 in
     let n = r .pool .length in
     let room : i + 8 ≤ n = omega (arith, h .least, h .most) in
-    rw (e, q, put-is r m (offsetOf r address) value) (put-part m (r .pool .start) n i value (h .fits) room)
+    rw (e, q, put-is r m (offsetOf r address) value) (put-part (r .ee) m (r .pool .start) n i value (h .fits) room)
 
 -- a storable descriptor lies in the pool's part of the memory
 pub store-room : (r : Regime) (m : List ℕ) (address k : ℕ) → Storable (length m) (r .pool) address → k ≡ r .pool .length

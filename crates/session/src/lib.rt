@@ -52,14 +52,15 @@ pub fn store_in(
     if set == 0 {
         return Checked::Refused(Refusal::NoRegime);
     }
-    let pool = regime.regime().pool;
+    let r = regime.regime();
+    let pool = r.pool;
     match checks::check_session_store(memory.len(), pool, address) {
         Checked::Refused(refusal) => Checked::Refused(refusal),
         Checked::Accepted => {
             let start = pool.start;
             let end = start + pool.length;
             let offset = (address.0 - pool.address.0) as usize;
-            descriptor::store(&mut memory[start..end], offset, value);
+            descriptor::store(&mut memory[start..end], offset, value, r.ee);
             Checked::Accepted
         }
     }

@@ -80,9 +80,9 @@ traced-page r pool address z = locate-page r _ (pageOf pageBits address * pageSi
 
 -- ---- a descriptor put into the memory
 
-pub put-is : (r : Regime) (m : List ℕ) (at v : ℕ) → putWord ours r m at v ≡ put m at v
+pub put-is : (r : Regime) (m : List ℕ) (at v : ℕ) → putWord ours r m at v ≡ put (r .ee) m at v
 unfolding putWord put
-put-is r m at v = rw (length-bytes v)
+put-is r m at v = rw (length-bytes (r .ee) v)
 
 -- ---- the walk over the memory
 
@@ -103,9 +103,9 @@ module _ (r : Regime) (m : List ℕ) (a : Access) (z : Sized r) (e : rangeOf r (
   trace = traced r pool (a .address .0)
 
   memory-by : (at : ℕ) (v : ℕ) (b : Bool) → (at - r .pool .address .0) + 8 ≤ r .pool .length
-      → pick b (putWord ours r m (offsetOf r at) v) m ≡ withPoolBytes (r .pool) m (pick b (put pool (at - r .pool .address .0) v) pool)
+      → pick b (putWord ours r m (offsetOf r at) v) m ≡ withPoolBytes (r .pool) m (pick b (put (r .ee) pool (at - r .pool .address .0) v) pool)
   unfolding pool
-  memory-by at v b k = rw (put-is r m (offsetOf r at) v) (sym (with-put m (r .pool .start) (r .pool .length) (at - r .pool .address .0) v b h k))
+  memory-by at v b k = rw (put-is r m (offsetOf r at) v) (sym (with-put (r .ee) m (r .pool .start) (r .pool .length) (at - r .pool .address .0) v b h k))
 
   by-end : (n : ℕ) (x : End) → trace .end ≡ x
       → walkFrom ours r m a (spotAt r n x)

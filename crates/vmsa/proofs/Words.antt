@@ -10,4 +10,4 @@ flag-byte false = refl
 
 pub regime-words : (r : Regime) → regimeOf (regimeWords r) ≡ r
 unfolding regimeOf regimeWords
-regime-words r = rw (flag-byte (r .range0 .disabled), flag-byte (r .range1 .disabled), flag-byte (r .ha), flag-byte (r .hd), flag-byte (r .wxn), flag-byte (r .range0 .hpd), flag-byte (r .range1 .hpd))
+regime-words r = rw (flag-byte (r .range0 .disabled), flag-byte (r .range1 .disabled), flag-byte (r .ha), flag-byte (r .hd), flag-byte (r .wxn), flag-byte (r .range0 .hpd), flag-byte (r .range1 .hpd), flag-byte (r .ee))

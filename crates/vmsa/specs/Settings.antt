@@ -10,7 +10,7 @@ use Rattle.vmsa.specs.Limits.{tszLeast, outputMost}
 abbrev pub disabledRange : Range
 disabledRange = record { root = record { 0 = 0 }; tsz = tszLeast; disabled = true; hpd = false }
 
--- no pool yet, both ranges disabled, 48 bits of output, no updates, Device memory only
+-- no pool yet, both ranges disabled, 48 bits of output, no updates, little-endian descriptors, Device memory only
 abbrev pub initial : Regime
 initial = record {
   pool = record { start = 0; length = 0; address = record { 0 = 0 } };
@@ -20,17 +20,18 @@ initial = record {
   ha = false;
   hd = false;
   wxn = false;
+  ee = false;
   attributes = 0;
 }
 
 abbrev pub withPool : Regime → Pool → Regime
-withPool r x = record { pool = x; range0 = r .range0; range1 = r .range1; output = r .output; ha = r .ha; hd = r .hd; wxn = r .wxn; attributes = r .attributes }
+withPool r x = record { pool = x; range0 = r .range0; range1 = r .range1; output = r .output; ha = r .ha; hd = r .hd; wxn = r .wxn; ee = r .ee; attributes = r .attributes }
 
 abbrev pub withRange0 : Regime → Range → Regime
-withRange0 r x = record { pool = r .pool; range0 = x; range1 = r .range1; output = r .output; ha = r .ha; hd = r .hd; wxn = r .wxn; attributes = r .attributes }
+withRange0 r x = record { pool = r .pool; range0 = x; range1 = r .range1; output = r .output; ha = r .ha; hd = r .hd; wxn = r .wxn; ee = r .ee; attributes = r .attributes }
 
 abbrev pub withRange1 : Regime → Range → Regime
-withRange1 r x = record { pool = r .pool; range0 = r .range0; range1 = x; output = r .output; ha = r .ha; hd = r .hd; wxn = r .wxn; attributes = r .attributes }
+withRange1 r x = record { pool = r .pool; range0 = r .range0; range1 = x; output = r .output; ha = r .ha; hd = r .hd; wxn = r .wxn; ee = r .ee; attributes = r .attributes }
 
 -- a range with its HPD changed
 abbrev pub rangeWithHpd : Range → Bool → Range
@@ -43,16 +44,19 @@ abbrev pub withHpd1 : Regime → Bool → Regime
 withHpd1 r x = withRange1 r (rangeWithHpd (r .range1) x)
 
 abbrev pub withOutput : Regime → ℕ → Regime
-withOutput r x = record { pool = r .pool; range0 = r .range0; range1 = r .range1; output = x; ha = r .ha; hd = r .hd; wxn = r .wxn; attributes = r .attributes }
+withOutput r x = record { pool = r .pool; range0 = r .range0; range1 = r .range1; output = x; ha = r .ha; hd = r .hd; wxn = r .wxn; ee = r .ee; attributes = r .attributes }
 
 abbrev pub withHa : Regime → Bool → Regime
-withHa r x = record { pool = r .pool; range0 = r .range0; range1 = r .range1; output = r .output; ha = x; hd = r .hd; wxn = r .wxn; attributes = r .attributes }
+withHa r x = record { pool = r .pool; range0 = r .range0; range1 = r .range1; output = r .output; ha = x; hd = r .hd; wxn = r .wxn; ee = r .ee; attributes = r .attributes }
 
 abbrev pub withHd : Regime → Bool → Regime
-withHd r x = record { pool = r .pool; range0 = r .range0; range1 = r .range1; output = r .output; ha = r .ha; hd = x; wxn = r .wxn; attributes = r .attributes }
+withHd r x = record { pool = r .pool; range0 = r .range0; range1 = r .range1; output = r .output; ha = r .ha; hd = x; wxn = r .wxn; ee = r .ee; attributes = r .attributes }
 
 abbrev pub withWxn : Regime → Bool → Regime
-withWxn r x = record { pool = r .pool; range0 = r .range0; range1 = r .range1; output = r .output; ha = r .ha; hd = r .hd; wxn = x; attributes = r .attributes }
+withWxn r x = record { pool = r .pool; range0 = r .range0; range1 = r .range1; output = r .output; ha = r .ha; hd = r .hd; wxn = x; ee = r .ee; attributes = r .attributes }
+
+abbrev pub withEe : Regime → Bool → Regime
+withEe r x = record { pool = r .pool; range0 = r .range0; range1 = r .range1; output = r .output; ha = r .ha; hd = r .hd; wxn = r .wxn; ee = x; attributes = r .attributes }
 
 abbrev pub withAttributes : Regime → ℕ → Regime
-withAttributes r x = record { pool = r .pool; range0 = r .range0; range1 = r .range1; output = r .output; ha = r .ha; hd = r .hd; wxn = r .wxn; attributes = x }
+withAttributes r x = record { pool = r .pool; range0 = r .range0; range1 = r .range1; output = r .output; ha = r .ha; hd = r .hd; wxn = r .wxn; ee = r .ee; attributes = x }

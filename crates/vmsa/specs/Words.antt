@@ -22,6 +22,7 @@ regimeOf w = record {
   ha = flag (w .ha);
   hd = flag (w .hd);
   wxn = flag (w .wxn);
+  ee = flag (w .ee);
   attributes = w .attributes;
 }
 
@@ -43,6 +44,7 @@ regimeWords r = record {
   wxn = flagByte (r .wxn);
   hpd0 = flagByte (r .range0 .hpd);
   hpd1 = flagByte (r .range1 .hpd);
-  spare16 = 0;
+  ee = flagByte (r .ee);
+  spare8 = 0;
   spare32 = 0;
 }

@@ -5,7 +5,7 @@ ghost use Rattle.vmsa.specs.Kinds.{isFetch, isProbe, asksWrite, writes a
 ghost use Rattle.vmsa.specs.Attributes.{attribute as attributeOf, device as deviceOf, normal as normalOf};
 ghost use Rattle.vmsa.specs.Answers.{numberOf, codeOf, view, cacheableIn, dirtiedIn};
 ghost use Rattle.vmsa.specs.Words.{flagByte, regimeOf, regimeWords};
-ghost use Rattle.vmsa.specs.Settings.{initial, withPool, withRange0, withRange1, withHpd0, withHpd1, withOutput, withHa, withHd, withWxn, withAttributes};
+ghost use Rattle.vmsa.specs.Settings.{initial, withPool, withRange0, withRange1, withHpd0, withHpd1, withOutput, withHa, withHd, withWxn, withEe, withAttributes};
 
 // The limits of the pool, the memory and the regime; specs/Limits.antt has the same numbers.
 pub const MEMORY_LIMIT: usize = 16777216;
@@ -72,7 +72,7 @@ pub struct Range {
     pub hpd: bool,
 }
 
-// A translation regime: stage 1 of EL1&0.
+// A translation regime: stage 1 of EL1&0. ee: its descriptors are big-endian.
 pub struct Regime {
     pub pool: Pool,
     pub range0: Range,
@@ -81,6 +81,7 @@ pub struct Regime {
     pub ha: bool,
     pub hd: bool,
     pub wxn: bool,
+    pub ee: bool,
     pub attributes: u64,
 }
 
@@ -103,7 +104,8 @@ pub struct RegimeWords {
     pub wxn: u8,
     pub hpd0: u8,
     pub hpd1: u8,
-    pub spare16: u16,
+    pub ee: u8,
+    pub spare8: u8,
     pub spare32: u32,
 }
 
@@ -183,7 +185,7 @@ pub struct Leaf {
 }
 
 impl Regime {
-    // No pool yet, both ranges disabled, 48 bits of output, no updates, Device memory only.
+    // No pool yet, both ranges disabled, 48 bits of output, no updates, little-endian descriptors, Device memory only.
     pub fn new() -> Self
         ensures { λ r. ⌜ r ≡ initial ⌝ }
     {
@@ -205,6 +207,7 @@ impl Regime {
             ha: false,
             hd: false,
             wxn: false,
+            ee: false,
             attributes: 0,
         }
     }
@@ -272,6 +275,13 @@ impl Regime {
         self
     }
 
+    pub fn with_ee(mut self, ee: bool) -> Self
+        ensures { λ r. ⌜ r ≡ withEe self ee ⌝ }
+    {
+        self.ee = ee;
+        self
+    }
+
     pub fn with_attributes(mut self, attributes: u64) -> Self
         ensures { λ r. ⌜ r ≡ withAttributes self attributes ⌝ }
     {
@@ -317,6 +327,7 @@ impl RegimeWords {
             .with_ha(self.ha != 0)
             .with_hd(self.hd != 0)
             .with_wxn(self.wxn != 0)
+            .with_ee(self.ee != 0)
             .with_attributes(self.attributes)
     }
 
@@ -341,7 +352,8 @@ impl RegimeWords {
             wxn: flag_byte(r.wxn),
             hpd0: flag_byte(r.range0.hpd),
             hpd1: flag_byte(r.range1.hpd),
-            spare16: 0,
+            ee: flag_byte(r.ee),
+            spare8: 0,
             spare32: 0,
         }
     }

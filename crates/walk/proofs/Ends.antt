@@ -30,7 +30,7 @@ use Rattle.lookup.specs.declared.Ending.{Ending}
 use Rattle.lookup.specs.declared.Ending.the-variants as ending
 use Rattle.lookup.specs.declared.Located.{Located}
 use Rattle.lookup.specs.Trace.{End, fault, leaf, Trace, shownEnd, shown}
-use Rattle.lookup.specs.Steps.{fetched, contextOf, upper, rangeOf}
+use Rattle.lookup.specs.Steps.{poolReader, contextOf, upper, rangeOf}
 use Rattle.lookup.proofs.Decoding.{aligned8}
 use Rattle.lookup.proofs.Reach.{Good, Reached, locate-good, InPool, in-pool}
 use Rattle.decision.specs.declared.Verdict.{Verdict}
@@ -72,15 +72,15 @@ at-fault t l kind q h =
 
 -- a leaf that the walk reached: it lies in the pool
 pub record Found (r : Regime) (pool : List ℕ) (address a : ℕ) (l : Leaf) : Type 0 where
-  pub reached : Reached (contextOf r address) (fetched pool (r .pool .address .0)) a l
-  pub inside : InPool pool (r .pool .address .0) a (l .value)
+  pub reached : Reached (contextOf r address) (poolReader r pool) a l
+  pub inside : InPool (r .ee) pool (r .pool .address .0) a (l .value)
 
 pub found : (r : Regime) (pool : List ℕ) (address a : ℕ) (l : Leaf) → Sized r → rangeOf r address .root .0 % 8 ≡ 0 → traced r pool address .end ≡ leaf a l → Found r pool address a l
 unfolding traced
 found r pool address a l z e q =
-    let read = fetched pool (r .pool .address .0) in
+    let read = poolReader r pool in
     let g : Reached (contextOf r address) read a l = subst (λ (x : End). Good (contextOf r address) read x) q (locate-good r read address z e) in
-    record { reached = g; inside = in-pool pool (r .pool .address .0) a (l .value) (g .value) }
+    record { reached = g; inside = in-pool (r .ee) pool (r .pool .address .0) a (l .value) (g .value) }
 
 -- ---- the answer over the pool, from what the code computed
 
@@ -90,7 +90,7 @@ module _ (r : Regime) (a : Access) (pool : List ℕ) (l : Located) (q : l ≡ sh
   unfolding walkPool
   fault-outcome kind h = let f = at-fault (traced r pool (a .address .0)) l kind q h in rw (f .reads, f .end)
 
-  opened : l .ending ≡ ending.Leaf → walkPool r a pool ≡ applied pool (l .address .0 - r .pool .address .0) (decision r a (l .leaf) (l .reads))
+  opened : l .ending ≡ ending.Leaf → walkPool r a pool ≡ applied (r .ee) pool (l .address .0 - r .pool .address .0) (decision r a (l .leaf) (l .reads))
   unfolding walkPool
   opened h = let f = at-leaf (traced r pool (a .address .0)) l q h in rw (f .reads, f .end)
 
@@ -98,7 +98,7 @@ module _ (r : Regime) (a : Access) (pool : List ℕ) (l : Located) (q : l ≡ sh
   kept-outcome h v e u = sym (opened h ∙ rw (← e, u))
 
   pub stored-outcome : l .ending ≡ ending.Leaf → (v : Verdict) → seen v ≡ decision r a (l .leaf) (l .reads) → v .update ≡ true
-      → (after : List ℕ) → after ≡ put pool (l .address .0 - r .pool .address .0) (v .value) → outcome (v .answer) after ≡ walkPool r a pool
+      → (after : List ℕ) → after ≡ put (r .ee) pool (l .address .0 - r .pool .address .0) (v .value) → outcome (v .answer) after ≡ walkPool r a pool
   stored-outcome h v e u after s = sym (opened h ∙ rw (← e, u, s))
 
   pub fault-kept : (kind : FaultKind) → l .ending ≡ ending.Fault kind → none ≡ keptPool r a pool

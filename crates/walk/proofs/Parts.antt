@@ -52,20 +52,20 @@ length-part m s n h = length-take-le n (drop s m) (rw (length-drop s m) (omega a
 -- ---- a descriptor
 
 -- the bytes beside one that is stored
-pub getD-put : (m : List ℕ) (i v : ℕ) → i + 8 ≤ length m → (k : ℕ) → (k < i) ⊎ (i + 8 ≤ k) → getD (put m i v) k 0 ≡ getD m k 0
-getD-put m i v fits k (inl h) = getD-put-before m i v fits k h
-getD-put m i v fits k (inr h) = getD-put-after m i v fits k h
+pub getD-put : (ee : Bool) (m : List ℕ) (i v : ℕ) → i + 8 ≤ length m → (k : ℕ) → (k < i) ⊎ (i + 8 ≤ k) → getD (put ee m i v) k 0 ≡ getD m k 0
+getD-put ee m i v fits k (inl h) = getD-put-before ee m i v fits k h
+getD-put ee m i v fits k (inr h) = getD-put-after ee m i v fits k h
 
 -- a descriptor stored in the part, or not, is stored in the memory, or not
-pub with-put : (m : List ℕ) (s n i v : ℕ) (b : Bool) → s + n ≤ length m → i + 8 ≤ n
-    → take s m ++ pick b (put (take n (drop s m)) i v) (take n (drop s m)) ++ drop (s + n) m ≡ pick b (put m (s + i) v) m
-with-put m s n i v true h k = sym (put-back m (put (take n (drop s m)) i v) s n) ∙ put-part m s n i v h k
-with-put m s n i v false h k = with-own m s n
+pub with-put : (ee : Bool) (m : List ℕ) (s n i v : ℕ) (b : Bool) → s + n ≤ length m → i + 8 ≤ n
+    → take s m ++ pick b (put ee (take n (drop s m)) i v) (take n (drop s m)) ++ drop (s + n) m ≡ pick b (put ee m (s + i) v) m
+with-put ee m s n i v true h k = sym (put-back m (put ee (take n (drop s m)) i v) s n) ∙ put-part ee m s n i v h k
+with-put ee m s n i v false h k = with-own m s n
 
 -- a descriptor of the part is one of the memory
-pub desc-part : (m : List ℕ) (s n j : ℕ) → s + n ≤ length m → j + 8 ≤ n → desc (take n (drop s m)) j ≡ desc m (s + j)
+pub desc-part : (ee : Bool) (m : List ℕ) (s n j : ℕ) → s + n ≤ length m → j + 8 ≤ n → desc ee (take n (drop s m)) j ≡ desc ee m (s + j)
 unfolding desc
-desc-part m s n j h k =
+desc-part ee m s n j h k =
     let part = take n (drop s m) in
     let rest = drop n (drop s m) in
     let ln : length part ≡ n = length-part m s n h in
@@ -73,4 +73,4 @@ desc-part m s n j h k =
     let l2 : 8 ≤ length (drop j part) = rw (length-drop j part) (omega arith) in
     let e : drop (s + j) m ≡ drop j part ++ rest =
     sym (drop-drop j s m) ∙ ap (λ (x : List ℕ). drop j x) (sym (take-append-drop n (drop s m))) ∙ drop-append-le j part rest l1 in
-    ap valueOf (sym (rw e (take-append-le 8 (drop j part) rest l2)))
+    ap (valueOf ee) (sym (rw e (take-append-le 8 (drop j part) rest l2)))

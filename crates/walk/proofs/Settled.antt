@@ -36,7 +36,7 @@ low-decision r a l n = by (flagFails r l) (alignmentFails r a l) (permissionFail
 
 pub low-fault : (r : Regime) (pool : List ℕ) (address : ℕ) → Sized r → (kind : FaultKind) (level : ℕ) → traced r pool address .end ≡ fault kind level → level ≤ 3
 unfolding traced
-low-fault r pool address z kind level e = subst (λ (x : End). Backed pool (r .pool .address .0) x) e (locate-backed r pool (r .pool .address .0) address z)
+low-fault r pool address z kind level e = subst (λ (x : End). Backed (r .ee) pool (r .pool .address .0) x) e (locate-backed r (r .ee) pool (r .pool .address .0) address z)
 
 low-end : (r : Regime) (a : Access) (pool : List ℕ) (n : ℕ) (x : End) → ((kind : FaultKind) (level : ℕ) → x ≡ fault kind level → level ≤ 3) → LowIn (concluded r a pool n x .result)
 low-end r a pool n (fault kind level) h = h kind level refl

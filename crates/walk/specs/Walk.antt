@@ -16,7 +16,7 @@ use Rattle.checks.specs.declared.Checked.{Checked}
 use Rattle.checks.specs.declared.Checked.the-variants.{Accepted, Refused}
 use Rattle.checks.specs.Order.{walkCheck}
 use Rattle.lookup.specs.Trace.{End, fault, leaf, Trace}
-use Rattle.lookup.specs.Steps.{fetched, locate}
+use Rattle.lookup.specs.Steps.{poolReader, locate}
 use Rattle.decision.specs.Decision.{Decision, decision}
 use Rattle.walk.specs.declared.Kept.{Kept}
 use Rattle.walk.specs.declared.Kept.the-variants as kept
@@ -37,19 +37,19 @@ poolBytes p memory = take (p .length) (drop (p .start) memory)
 abbrev pub withPoolBytes : Pool → List ℕ → List ℕ → List ℕ
 withPoolBytes p memory bytes = take (p .start) memory ++ bytes ++ drop (p .start + p .length) memory
 
--- what a leaf decides, with its new value put where the descriptor lies
-abbrev pub applied : List ℕ → ℕ → Decision → Outcome
-applied pool at d = record { result = d .result; bytes = pick (d .update) (put pool at (d .value)) pool }
+-- what a leaf decides, with its new value put where the descriptor lies, in the byte order of ee
+abbrev pub applied : Bool → List ℕ → ℕ → Decision → Outcome
+applied ee pool at d = record { result = d .result; bytes = pick (d .update) (put ee pool at (d .value)) pool }
 
 -- the end of steps 1 to 5 taken to the answer; a fault may not be remembered and changes nothing
 abbrev pub concluded : Regime → Access → List ℕ → ℕ → End → Outcome
 concluded r a pool reads (fault kind level) =
     record { result = faulted (record { code = codeOf kind level; level = level; cacheable = false; reads = reads }); bytes = pool }
-concluded r a pool reads (leaf at l) = applied pool (at - r .pool .address .0) (decision r a l reads)
+concluded r a pool reads (leaf at l) = applied (r .ee) pool (at - r .pool .address .0) (decision r a l reads)
 
 -- the descriptors that a walk visits in the pool, and their end
 unfoldable pub traced : Regime → List ℕ → ℕ → Trace
-traced r pool address = locate r (fetched pool (r .pool .address .0)) address
+traced r pool address = locate r (poolReader r pool) address
 
 -- the walk over the pool's bytes along a trace; the count of reads is the length of the visited list
 abbrev pub walkAlong : Regime → Access → List ℕ → Trace → Outcome

@@ -63,7 +63,7 @@ pub fn walk_leaf(pool: &mut [u8], r: Regime, a: Access) -> Walked
             let kept = keep(answer, verdict.value, found.leaf);
             if verdict.update {
                 let offset = (found.address.0 - r.pool.address.0) as usize;
-                descriptor::store(pool, offset, verdict.value);
+                descriptor::store(pool, offset, verdict.value, r.ee);
             }
             Walked {
                 answer: answer,

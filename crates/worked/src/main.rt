@@ -93,15 +93,15 @@ fn usual(kind: AccessKind) -> Access
     access(0x403ABC, 4, kind)
 }
 
-// Puts the four descriptors into the memory.
-fn fill(memory: &mut [u8], third: u64, leaf: u64)
+// Puts the four descriptors into the memory, big-endian where ee holds.
+fn fill(memory: &mut [u8], third: u64, leaf: u64, ee: bool)
     requires { ⌜ Roomy (now memory) ⌝ }
-    ensures { λ _. ⌜ now (memory .exit) ≡ puts (now (memory .entry)) (tablesWith third leaf) ⌝ }
+    ensures { λ _. ⌜ now (memory .exit) ≡ puts ee (now (memory .entry)) (tablesWith third leaf) ⌝ }
 {
-    descriptor::store(memory, 0, 0x40001003);
-    descriptor::store(memory, 0x1000, 0x40002003);
-    descriptor::store(memory, 0x2010, third);
-    descriptor::store(memory, LEAF_OFFSET, leaf);
+    descriptor::store(memory, 0, 0x40001003, ee);
+    descriptor::store(memory, 0x1000, 0x40002003, ee);
+    descriptor::store(memory, 0x2010, third, ee);
+    descriptor::store(memory, LEAF_OFFSET, leaf, ee);
 }
 
 // ---- what is printed
@@ -175,9 +175,9 @@ fn print_line(number: u64, answer: Answer, leaf: u64) {
 // The walk of an access in the memory with the four descriptors put in.
 fn walk_filled(memory: &mut [u8], r: Regime, a: Access, third: u64, leaf: u64) -> Answer
     requires { ⌜ Roomy (now memory) ⌝ }
-    ensures { λ v. ⌜ outcome v (now (memory .exit)) ≡ walkOf r a (puts (now (memory .entry)) (tablesWith third leaf)) ⌝ }
+    ensures { λ v. ⌜ outcome v (now (memory .exit)) ≡ walkOf r a (puts (r .ee) (now (memory .entry)) (tablesWith third leaf)) ⌝ }
 {
-    fill(memory, third, leaf);
+    fill(memory, third, leaf, r.ee);
     walk::walk(memory, r, a)
 }
 
@@ -186,13 +186,21 @@ fn run_in(memory: &mut [u8], number: u64, r: Regime, a: Access, third: u64, leaf
     requires { ⌜ Roomy (now memory) ⌝ }
 {
     let answer = walk_filled(memory, r, a, third, leaf);
-    print_line(number, answer, descriptor::load(memory, LEAF_OFFSET));
+    print_line(number, answer, descriptor::load(memory, LEAF_OFFSET, r.ee));
 }
 
 // Runs it in a memory of zeros that is exactly the pool.
 fn run(number: u64, r: Regime, a: Access, third: u64, leaf: u64) {
     let mut memory = [0u8; LENGTH];
     run_in(&mut memory, number, r, a, third, leaf);
+}
+
+// Runs P2, and prints the bytes of the leaf's descriptor from the lowest offset on: as a number they are big-endian.
+fn run_bytes(memory: &mut [u8; LENGTH], r: Regime, a: Access) {
+    walk_filled(memory, r, a, THIRD, LEAF);
+    print(b"P2 leaves the bytes ");
+    print_hex(descriptor::load(memory, LEAF_OFFSET, true));
+    print(b"\n");
 }
 
 // Runs P12 in one memory with the longest pool, and with one page more. (If main made it a slice, the prover would write out all its bytes.)
@@ -209,7 +217,7 @@ fn step(session: Session, memory: &mut [u8; LENGTH], text: &[u8], a: Access) -> 
     let after = x.session;
     let answer = x.answer;
     print(text);
-    print_answer(answer, descriptor::load(memory, LEAF_OFFSET));
+    print_answer(answer, descriptor::load(memory, LEAF_OFFSET, false));
     after
 }
 
@@ -217,7 +225,7 @@ fn step(session: Session, memory: &mut [u8; LENGTH], text: &[u8], a: Access) -> 
 fn run_session(memory: &mut [u8; LENGTH], r: Regime) {
     let read = usual(AccessKind::Read);
     let write = usual(AccessKind::Write);
-    fill(memory, THIRD, LEAF);
+    fill(memory, THIRD, LEAF, r.ee);
     let s0 = step(Session::empty(), memory, b"no regime:", read);
     let set = s0.set_regime(memory, r);
     let s1 = set.session;
@@ -256,6 +264,13 @@ fn main() {
     run(2, r, write, NO_WRITE_BELOW, LEAF);
     print(b"with HPD: ");
     run(2, r.with_hpd0(true), write, NO_WRITE_BELOW, LEAF);
+    print(b"with EE: ");
+    run(2, r.with_ee(true), write, THIRD, LEAF);
+    let mut little = [0u8; LENGTH];
+    run_bytes(&mut little, r, write);
+    print(b"with EE: ");
+    let mut big = [0u8; LENGTH];
+    run_bytes(&mut big, r.with_ee(true), write);
     let mut long = [0u8; TOO_LONG];
     run_long(&mut long, read);
     let mut memory = [0u8; LENGTH];

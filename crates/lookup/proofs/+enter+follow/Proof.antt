@@ -27,10 +27,10 @@ use Rattle.lookup.proofs.+enter+follow.{statement}
 use Rattle.lookup.proofs.+enter+follow.Tie.{close}
 
 abbrev μ-enter : Measures 1 enter-kinds.ps ℕ
-μ-enter κs a = 2 * a .1 .1 .1 .1 .1 .1 .0 + 1
+μ-enter κs a = 2 * a .1 .1 .1 .0 + 1
 
 abbrev μ-follow : Measures 1 follow-kinds.ps ℕ
-μ-follow κs a = 2 * a .1 .1 .1 .1 .1 .1 .1 .0
+μ-follow κs a = 2 * a .1 .1 .1 .0
 
 abbrev enter-at : ℕ → In 1 enter-kinds.ps
 enter-at t = and 1 enter-kinds.ps (is 1 enter-kinds.ps μ-enter t) enter.Pre
@@ -72,7 +72,7 @@ enter-returns : (t : ℕ) → enter-lts.Need-returns (enter-calls t) (enter-at t
 enter-returns t c =
     let a = c .before .before .before .before .before .before .before .args in
     let k = context (a .base) (a .limit) (a .input) (a .page) in
-    let read = fetched (a .pool .now) (a .base .0) in
+    let read = fetched (a .ee) (a .pool .now) (a .base .0) in
     c .pack .ensures
     ∙ ap (λ (number : ℕ). joined (levelOf (a .left)) number 0 0) (c .before .kind-number .ensures .0)
     ∙ sym (abort-packed k read (a .left) (tableBits (a .met)) (a .table .0)
@@ -85,7 +85,7 @@ enter-returns-2 : (t : ℕ) → enter-lts.Need-returns-2 (enter-calls t) (enter-
 enter-returns-2 t c =
     let a = c .before .before .before .before .before .before .before .args in
     let k = context (a .base) (a .limit) (a .input) (a .page) in
-    let read = fetched (a .pool .now) (a .base .0) in
+    let read = fetched (a .ee) (a .pool .now) (a .base .0) in
     c .follow .ensures
     ∙ sym (rw (← c .before .before .before .before .before .entry-at .ensures .0) at (value-packed k read (a .left) (tableBits (a .met)) (a .table .0) (c .before .before .v .given .0 .0)
     (rw (← c .before .before .before .before .before .entry-at .ensures .0) (sym (c .before .before .before .before .fetch .ensures) ∙ c .before .before .v .given .1))))
@@ -128,7 +128,7 @@ follow-returns : (t : ℕ) → follow-lts.Need-returns (follow-calls t) (follow-
 follow-returns t c =
     let a = c .before .before .before .before .before .before .before .args in
     let k = context (a .base) (a .limit) (a .input) (a .page) in
-    let read = fetched (a .pool .now) (a .base .0) in
+    let read = fetched (a .ee) (a .pool .now) (a .base .0) in
     c .pack .ensures
     ∙ ap (λ (number : ℕ). joined (levelOf (a .left)) number 0 0) (c .before .kind-number .ensures .0)
     ∙ sym (fault-packed k (descend k read (a .left)) (tableBits (a .met)) (a .left) (a .at .0) (a .v) _ (sym (c .before .before .before .before .before .decode .ensures .0) ∙ c .before .before .before .kind .given .1))
@@ -137,7 +137,7 @@ follow-returns-2 : (t : ℕ) → follow-lts.Need-returns-2 (follow-calls t) (fol
 follow-returns-2 t c =
     let a = c .before .before .before .before .before .before .args in
     let k = context (a .base) (a .limit) (a .input) (a .page) in
-    let read = fetched (a .pool .now) (a .base .0) in
+    let read = fetched (a .ee) (a .pool .now) (a .base .0) in
     let h : Sound (c .before .before .before .before .before .before .args .left) (Table (c .before .before .table .given .0 .0)) = rw (c .before .before .table .given .1) at (c .before .before .before .before .decode .ensures .1) in
     c .enter .ensures
     ∙ sym (table-packed k (descend k read (a .left)) (tableBits (a .met)) (a .left) (a .at .0) (a .v) _ (sym (c .before .before .before .before .decode .ensures .0) ∙ c .before .before .table .given .1)
@@ -148,7 +148,7 @@ follow-returns-3 : (t : ℕ) → follow-lts.Need-returns-3 (follow-calls t) (fol
 follow-returns-3 t c =
     let a = c .before .before .before .before .before .before .args in
     let k = context (a .base) (a .limit) (a .input) (a .page) in
-    let read = fetched (a .pool .now) (a .base .0) in
+    let read = fetched (a .ee) (a .pool .now) (a .base .0) in
     c .pack2 .ensures
     ∙ ap (λ (sum : ℕ). joined (levelOf (a .left)) leafNumber sum (a .at .0)) (c .before .table-bits .ensures .0)
     ∙ sym (leaf-packed k (descend k read (a .left)) (tableBits (a .met)) (a .left) (a .at .0) (a .v) (sym (c .before .before .before .before .decode .ensures .0) ∙ c .before .before .enum-told .given .1))

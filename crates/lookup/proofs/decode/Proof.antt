@@ -1,36 +1,60 @@
 use borrow.Author.Needs.{needs}
-use mathlib.Core.Path.{sym, _∙_, _≡_}
-use borrow.Author.Tests.{le-leb, lt-leb}
-use mathlib.Core.Bool.{true}
-use Rattle.lookup.specs.Steps.{decoded, isTable}
+use Prim.Native.Nat.{ℕ, _≤_, _<_}
+use mathlib.Core.Bool.{Bool, true, false, not, _&&_}
+use mathlib.Core.Path.{_≡_, sym, _∙_}
+use borrow.Author.Tests.{le-leb, lt-leb, not-true, not-false}
+use Rattle.descriptor.specs.Bits.{bit}
+use Rattle.geometry.specs.Geometry.{blockAt}
+use Rattle.lookup.specs.Steps.{isTable}
+use Rattle.lookup.proofs.Decoding.{decoded-unset, decoded-table, decoded-other}
 use Rattle.lookup.proofs.Levels.{table-left}
 use Rattle.lookup.proofs.decode.Statement.{statement}
 use Rattle.lookup.proofs.decode.Tie as tie
 
 returns : tie.Need-returns
-unfolding decoded
-returns c = (rw (sym (c .before .invalid .ensures) ∙ c .if1 .taken), tt)
+returns c =
+    let a = c .before .before .args in
+    (sym (decoded-unset (a .p) (a .limit .0) (a .left) (a .v) (sym (c .before .bit .ensures) ∙ not-true _ (c .if1 .taken))), tt)
 
 returns-2 : tie.Need-returns-2
-unfolding decoded
-returns-2 c = (
-  rw (sym (c .before .before .before .before .before .invalid .ensures) ∙ c .before .before .before .before .if1 .left, ← c .before .before .before .address-in .ensures .0, le-leb _ _ (c .if2 .taken)),
-  tt,
-)
+returns-2 c =
+    let a = c .before .before .before .before .before .before .before .before .before .args in
+    let valid : bit 0 (a .v) ≡ true = sym (c .before .before .before .before .before .before .before .before .bit .ensures) ∙ not-false _ (c .before .before .before .before .before .before .before .if1 .left) in
+    let table : isTable (a .left) (a .v) ≡ true = sym (c .before .before .before .before .before .before .is-table .ensures) ∙ c .before .before .before .before .before .if2 .taken in
+    (sym (decoded-table (a .p) (a .limit .0) (a .left) (a .v) valid table ∙ rw (← c .before .before .before .before .page-size .ensures .0, ← c .before .before .before .cut .ensures .0, le-leb _ _ (c .if3 .taken))), tt)
 
 returns-3 : tie.Need-returns-3
-unfolding decoded
 returns-3 c =
-    let a = c .before .before .before .before .before .before .before .before .args in
-    let t : isTable (a .left) (a .v) ≡ true = sym (c .before .is-table .ensures) ∙ c .if3 .taken in (
-      rw (sym (c .before .before .before .before .before .before .before .invalid .ensures) ∙ c .before .before .before .before .before .before .if1 .left, ← c .before .before .before .before .before .address-in .ensures .0, lt-leb _ _ (c .before .before .if2 .left), t),
-      (c .before .before .before .before .before .address-in .ensures .1, table-left (a .left) (a .v) t),
+    let a = c .before .before .before .before .before .before .before .before .before .args in
+    let valid : bit 0 (a .v) ≡ true = sym (c .before .before .before .before .before .before .before .before .bit .ensures) ∙ not-false _ (c .before .before .before .before .before .before .before .if1 .left) in
+    let table : isTable (a .left) (a .v) ≡ true = sym (c .before .before .before .before .before .before .is-table .ensures) ∙ c .before .before .before .before .before .if2 .taken in (
+      sym (decoded-table (a .p) (a .limit .0) (a .left) (a .v) valid table ∙ rw (← c .before .before .before .before .page-size .ensures .0, ← c .before .before .before .cut .ensures .0, lt-leb _ _ (c .if3 .left))),
+      (c .before .before .before .cut .ensures .1, table-left (a .left) (a .v) table),
     )
 
 returns-4 : tie.Need-returns-4
-unfolding decoded
 returns-4 c =
-    (rw (sym (c .before .before .before .before .before .before .before .invalid .ensures) ∙ c .before .before .before .before .before .before .if1 .left, ← c .before .before .before .before .before .address-in .ensures .0, lt-leb _ _ (c .before .before .if2 .left), sym (c .before .is-table .ensures) ∙ c .if3 .left), tt)
+    let a = c .before .before .before .before .before .before .before .args in
+    let valid : bit 0 (a .v) ≡ true = sym (c .before .before .before .before .before .before .bit .ensures) ∙ not-false _ (c .before .before .before .before .before .if1 .left) in
+    let other : isTable (a .left) (a .v) ≡ false = sym (c .before .before .before .before .is-table .ensures) ∙ c .before .before .before .if2 .left in
+    let bare : (not (bit 1 (a .v)) && not (blockAt (a .p) (a .left))) ≡ true = rw (c .before .before .bit2 .ensures, c .before .block-at .ensures) at (c .if4 .taken) in
+    (sym (decoded-other (a .p) (a .limit .0) (a .left) (a .v) valid other ∙ rw bare), tt)
+
+returns-5 : tie.Need-returns-5
+returns-5 c =
+    let a = c .before .before .before .before .before .before .before .before .before .before .before .args in
+    let valid : bit 0 (a .v) ≡ true = sym (c .before .before .before .before .before .before .before .before .before .before .bit .ensures) ∙ not-false _ (c .before .before .before .before .before .before .before .before .before .if1 .left) in
+    let other : isTable (a .left) (a .v) ≡ false = sym (c .before .before .before .before .before .before .before .before .is-table .ensures) ∙ c .before .before .before .before .before .before .before .if2 .left in
+    let block : (not (bit 1 (a .v)) && not (blockAt (a .p) (a .left))) ≡ false = rw (c .before .before .before .before .before .before .bit2 .ensures, c .before .before .before .before .before .block-at .ensures) at (c .before .before .before .before .if4 .left) in
+    (sym (decoded-other (a .p) (a .limit .0) (a .left) (a .v) valid other ∙ rw (block, ← c .before .before .before .span .ensures .0, ← c .before .before .cut2 .ensures .0, le-leb _ _ (c .if5 .taken))), tt)
+
+returns-6 : tie.Need-returns-6
+returns-6 c =
+    let a = c .before .before .before .before .before .before .before .before .before .before .before .args in
+    let valid : bit 0 (a .v) ≡ true = sym (c .before .before .before .before .before .before .before .before .before .before .bit .ensures) ∙ not-false _ (c .before .before .before .before .before .before .before .before .before .if1 .left) in
+    let other : isTable (a .left) (a .v) ≡ false = sym (c .before .before .before .before .before .before .before .before .is-table .ensures) ∙ c .before .before .before .before .before .before .before .if2 .left in
+    let block : (not (bit 1 (a .v)) && not (blockAt (a .p) (a .left))) ≡ false = rw (c .before .before .before .before .before .before .bit2 .ensures, c .before .before .before .before .before .block-at .ensures) at (c .before .before .before .before .if4 .left) in
+    (sym (decoded-other (a .p) (a .limit .0) (a .left) (a .v) valid other ∙ rw (block, ← c .before .before .before .span .ensures .0, ← c .before .before .cut2 .ensures .0, lt-leb _ _ (c .if5 .left))), tt)
 
 pub decode-spec : {M : Type 1} → statement M
 decode-spec =
@@ -39,7 +63,14 @@ decode-spec =
     (λ c κs. search needs)
     returns
     (λ c κs. search needs)
-    returns-2
     (λ c κs. search needs)
+    (λ c κs. search needs)
+    returns-2
     returns-3
-    returns-4)
+    (λ c κs. search needs)
+    (λ c κs. search needs)
+    returns-4
+    (λ c κs. search needs)
+    (λ c κs. search needs)
+    returns-5
+    returns-6)

@@ -4,7 +4,7 @@ use mathlib.Core.Path.{_≡_, refl, sym, ap, _∙_}
 use mathlib.Core.Bool.{_||_, true, false}
 use Rattle.vmsa.specs.Limits.{pageBits}
 use Rattle.lookup.specs.Trace.{shown}
-use Rattle.lookup.specs.Steps.{outside, fetched, context}
+use Rattle.lookup.specs.Steps.{outside, poolReader, context}
 use Rattle.lookup.proofs.Levels.{locate-off, locate-root, locate-go}
 use Rattle.lookup.proofs.Packing.{descent}
 use Rattle.lookup.proofs.locate.Statement.{statement}
@@ -14,7 +14,7 @@ returns : tie.Need-returns
 returns c =
     let a = c .before .before .before .before .before .before .args in
     let g = c .before .before .before .before .range-of in
-    let read = fetched (a .pool .now) (a .r .pool .address .0) in
+    let read = poolReader (a .r) (a .pool .now) in
     let h : (g .result .disabled || outside (g .result .tsz) (a .a .0)) ≡ true = rw (c .before .before .before .outside .ensures) at (c .before .if1 .taken) in
     c .failed .ensures ∙ sym (ap (shown 0) (locate-off (a .r) read (a .a .0) (g .result) (g .ensures .0) h))
 
@@ -22,7 +22,7 @@ returns-2 : tie.Need-returns-2
 returns-2 c =
     let a = c .before .before .before .before .before .before .before .before .before .before .before .args in
     let g = c .before .before .before .before .before .before .before .before .before .range-of in
-    let read = fetched (a .pool .now) (a .r .pool .address .0) in
+    let read = poolReader (a .r) (a .pool .now) in
     let h : (g .result .disabled || outside (g .result .tsz) (a .a .0)) ≡ false = rw (c .before .before .before .before .before .before .before .before .outside .ensures) at (c .before .before .before .before .before .before .if1 .left) in
     c .failed2 .ensures ∙ sym (ap (shown 0) (locate-root (a .r) read (a .a .0) (g .result) (g .ensures .0) h (rw (c .before .before .before .before .before .output-limit .ensures .0) at (c .before .if2 .taken))))
 
@@ -32,7 +32,7 @@ unpack-requires c κs =
     let base = a .r .pool .address in
     let k = context base (record { 0 = c .before .before .before .before .before .before .before .before .before .before .output-limit .result }) (record { 0 = a .a .0 % c .before .before .before .before .power .result }) pageBits in
     let first = c .before .before .first-left in
-    descent k (a .pool .now) (base .0) (first .result) (c .before .before .before .before .before .before .before .before .before .before .before .before .before .before .range-of .result .root .0) (c .level .result) (c .before .enter .result) (first .ensures .1) (c .level .ensures) (c .before .enter .ensures)
+    descent k (a .r .ee) (a .pool .now) (base .0) (first .result) (c .before .before .before .before .before .before .before .before .before .before .before .before .before .before .range-of .result .root .0) (c .level .result) (c .before .enter .result) (first .ensures .1) (c .level .ensures) (c .before .enter .ensures)
 
 returns-3 : tie.Need-returns-3
 returns-3 c =
@@ -45,8 +45,8 @@ returns-3 c =
     let level = c .before .level in
     let k = context base (record { 0 = limit .result }) (record { 0 = a .a .0 % power .result }) pageBits in
     let h : (g .result .disabled || outside (g .result .tsz) (a .a .0)) ≡ false = rw (c .before .before .before .before .before .before .before .before .before .before .before .before .before .before .outside .ensures) at (c .before .before .before .before .before .before .before .before .before .before .before .before .if1 .left) in
-    c .unpack .ensures (descent k (a .pool .now) (base .0) (first .result) (g .result .root .0) (level .result) (c .before .before .enter .result) (first .ensures .1) (level .ensures) (c .before .before .enter .ensures))
-    ∙ sym (ap (shown 0) (locate-go (a .r) (fetched (a .pool .now) (base .0)) (a .a .0) (g .result) (g .ensures .0) h (limit .result) (power .result) (first .result) (limit .ensures .0) (c .before .before .before .before .before .before .before .if2 .left) (power .ensures .0) (first .ensures .0) k refl))
+    c .unpack .ensures (descent k (a .r .ee) (a .pool .now) (base .0) (first .result) (g .result .root .0) (level .result) (c .before .before .enter .result) (first .ensures .1) (level .ensures) (c .before .before .enter .ensures))
+    ∙ sym (ap (shown 0) (locate-go (a .r) (poolReader (a .r) (a .pool .now)) (a .a .0) (g .result) (g .ensures .0) h (limit .result) (power .result) (first .result) (limit .ensures .0) (c .before .before .before .before .before .before .before .if2 .left) (power .ensures .0) (first .ensures .0) k refl))
 
 pub locate-spec : {M : Type 1} → statement M
 locate-spec =
