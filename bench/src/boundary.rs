@@ -19,21 +19,21 @@ pub const FAULT: u8 = 1;
 pub const REFUSED: u8 = 2;
 
 extern "C" {
-    fn vmsa_descriptor_load(memory: *const u8, length: usize, at: usize) -> u64;
-    fn vmsa_descriptor_store(memory: *mut u8, length: usize, at: usize, value: u64);
+    fn vmsa_descriptor_load(memory: *const u8, length: usize, at: usize, ee: u8) -> u64;
+    fn vmsa_descriptor_store(memory: *mut u8, length: usize, at: usize, value: u64, ee: u8);
 }
 
 #[inline(always)]
-pub fn load(memory: &[u8], at: usize) -> u64 {
+pub fn load(memory: &[u8], at: usize, ee: u8) -> u64 {
     // SAFETY: the pointer and length are those of a slice lent to this call,
     // and the library takes any offset and stays inside the slice.
-    unsafe { vmsa_descriptor_load(memory.as_ptr(), memory.len(), at) }
+    unsafe { vmsa_descriptor_load(memory.as_ptr(), memory.len(), at, ee) }
 }
 
 #[inline(always)]
-pub fn store(memory: &mut [u8], at: usize, value: u64) {
+pub fn store(memory: &mut [u8], at: usize, value: u64, ee: u8) {
     // SAFETY: as for `load`; the slice is lent to this call alone.
-    unsafe { vmsa_descriptor_store(memory.as_mut_ptr(), memory.len(), at, value) }
+    unsafe { vmsa_descriptor_store(memory.as_mut_ptr(), memory.len(), at, value, ee) }
 }
 
 #[inline(always)]

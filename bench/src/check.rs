@@ -12,14 +12,18 @@ const CALLS: u32 = 100;
 const DESCRIPTORS: u32 = 50_000;
 
 /// xorshift64*, seeded once: every run makes the same calls.
-struct Random(u64);
+struct Random {
+    state: u64,
+    /// The byte order of the tables in memory.
+    ee: u8,
+}
 
 impl Random {
     fn next(&mut self) -> u64 {
-        self.0 ^= self.0 >> 12;
-        self.0 ^= self.0 << 25;
-        self.0 ^= self.0 >> 27;
-        self.0.wrapping_mul(0x2545_f491_4f6c_dd1d)
+        self.state ^= self.state >> 12;
+        self.state ^= self.state << 25;
+        self.state ^= self.state >> 27;
+        self.state.wrapping_mul(0x2545_f491_4f6c_dd1d)
     }
 
     fn below(&mut self, limit: u64) -> u64 {
@@ -46,6 +50,7 @@ impl Random {
         regime.disabled1 = flag(3) & flag(4);
         regime.hpd0 = flag(5) & flag(6);
         regime.hpd1 = 2 * flag(7);
+        regime.ee = 4 * self.ee;
         if self.rarely() {
             regime.disabled0 = 2;
         }
@@ -58,13 +63,14 @@ impl Random {
             regime.tsz1 = 15 + self.below(26) as u8;
         }
         if self.rarely() {
-            match self.below(7) {
+            match self.below(8) {
                 0 => regime.start = 4096,
                 1 => regime.length = 0x8000,
                 2 => regime.address = (1 << 48) - 0xf000,
                 3 => regime.root0 += 8,
                 4 => regime.root0 = 1 << 40,
                 5 => regime.attributes = 0x10,
+                6 => regime.ee = 1 - self.ee,
                 _ => (regime.ha, regime.hd) = (0, 2),
             }
         }
@@ -114,14 +120,13 @@ impl Random {
             &[2, 3, 6, 7, 10, 51, 53, 54]
         };
         let bits = 1 << self.below(64) | 1 << which[self.below(which.len() as u64) as usize];
-        let old = u64::from_le_bytes(memory[at..at + 8].try_into().expect("8 bytes"));
-        old ^ bits
+        plain::load(memory, at, self.ee) ^ bits
     }
 
     fn disturb(&mut self, memory: &mut [u8]) {
         let at = self.place();
         let value = self.disturbed(memory, at);
-        memory[at..at + 8].copy_from_slice(&value.to_le_bytes());
+        plain::store(memory, at, value, self.ee);
     }
 
     /// The address of a store, most often that of a descriptor at `at`.
@@ -154,10 +159,14 @@ impl Random {
 /// Gives the number of random calls compared, and panics at the first
 /// difference.
 pub fn same_answers() -> u32 {
-    let mut random = Random(0x9e37_79b9_7f4a_7c15);
+    let mut random = Random {
+        state: 0x9e37_79b9_7f4a_7c15,
+        ee: 0,
+    };
     same_refusals();
     same_limits();
-    same_under_tables();
+    same_under_tables(0);
+    same_under_tables(1);
     same_descriptors(&mut random) + same_walks(&mut random)
 }
 
@@ -242,17 +251,20 @@ fn fill_to_the_end(pool: &mut [u8]) {
     kernels::put(pool, 0x2000 + 8 * LEAF_TABLES as usize, end + 3);
 }
 
-/// A memory and a session for each side.
+/// A memory and a session for each side, the tables in the byte order of `ee`.
 struct Sides {
+    ee: u8,
     memory: [Vec<u8>; 2],
     ours: boundary::Session,
     plain: plain::Session,
 }
 
 impl Sides {
-    fn new() -> Sides {
+    fn new(ee: u8) -> Sides {
+        let memory = kernels::in_order(kernels::memory(), ee);
         Sides {
-            memory: [kernels::memory(), kernels::memory()],
+            ee,
+            memory: [memory.clone(), memory],
             ours: boundary::Session::empty(),
             plain: plain::Session::empty(),
         }
@@ -260,7 +272,7 @@ impl Sides {
 
     fn put(&mut self, at: usize, value: u64) {
         for memory in &mut self.memory {
-            kernels::put(memory, at, value);
+            plain::store(memory, at, value, self.ee);
         }
     }
 
@@ -296,9 +308,9 @@ impl Sides {
 const LEAF: usize = 0x3000;
 
 /// The page under every sum of its tables' bits 62 to 59, in one of the three
-/// tables or among them.
-fn same_under_tables() {
-    let mut sides = Sides::new();
+/// tables or among them, the tables in one byte order.
+fn same_under_tables(ee: u8) {
+    let mut sides = Sides::new(ee);
     for sum in 0..16 {
         let among = [sum & 0b1010, sum & 0b0110, sum & 0b0101];
         for [first, second, third] in [[sum, 0, 0], [0, sum, 0], [0, 0, sum], among] {
@@ -321,6 +333,7 @@ fn same_leaves(sides: &mut Sides) {
             regime.wxn = flags & 1;
             regime.hpd0 = flags & 2;
             regime.hpd1 = flags & 4;
+            regime.ee = sides.ee;
             sides.set_regime(&regime);
             same_rights(sides, &regime, leaf);
         }
@@ -352,13 +365,17 @@ fn same_descriptors(random: &mut Random) -> u32 {
         let most = [16, ours.len() as u64 + 1][random.below(2) as usize];
         let length = random.below(most) as usize;
 
-        let at = random.offset(length);
-        let value = boundary::load(&ours[..length], at);
-        assert_eq!(value, plain::load(&plain[..length], at), "{at} of {length}");
+        let (at, ee) = (random.offset(length), random.below(3) as u8);
+        let value = boundary::load(&ours[..length], at, ee);
+        assert_eq!(
+            value,
+            plain::load(&plain[..length], at, ee),
+            "{at} of {length}"
+        );
 
         let (at, value) = (random.offset(length), random.next());
-        boundary::store(&mut ours[..length], at, value);
-        plain::store(&mut plain[..length], at, value);
+        boundary::store(&mut ours[..length], at, value, ee);
+        plain::store(&mut plain[..length], at, value, ee);
         assert!(ours == plain, "other bytes after {at} of {length}");
     }
     2 * DESCRIPTORS
@@ -366,7 +383,8 @@ fn same_descriptors(random: &mut Random) -> u32 {
 
 fn same_walks(random: &mut Random) -> u32 {
     for _ in 0..SCENES {
-        let mut ours = kernels::memory();
+        random.ee = random.below(2) as u8;
+        let mut ours = kernels::in_order(kernels::memory(), random.ee);
         for _ in 0..random.below(12) {
             random.disturb(&mut ours);
         }

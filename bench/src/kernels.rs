@@ -23,6 +23,7 @@ pub enum Kernel {
     Store,
     Walk4,
     Walk4Long,
+    Walk4Big,
     Block2,
     Hit,
     HitLong,
@@ -42,11 +43,12 @@ pub enum Side {
 }
 
 impl Kernel {
-    pub const ALL: [Kernel; 12] = [
+    pub const ALL: [Kernel; 13] = [
         Kernel::Load,
         Kernel::Store,
         Kernel::Walk4,
         Kernel::Walk4Long,
+        Kernel::Walk4Big,
         Kernel::Block2,
         Kernel::Hit,
         Kernel::HitLong,
@@ -63,6 +65,7 @@ impl Kernel {
             Kernel::Store => "store",
             Kernel::Walk4 => "walk4",
             Kernel::Walk4Long => "walk4-long",
+            Kernel::Walk4Big => "walk4-big",
             Kernel::Block2 => "block2",
             Kernel::Hit => "hit",
             Kernel::HitLong => "hit-long",
@@ -82,7 +85,7 @@ impl Kernel {
     fn address(self, i: u64) -> u64 {
         match self {
             // 512 pages in a scattered order.
-            Kernel::Walk4 => 0x40_0abc + ((i * 37 % 512) << 12),
+            Kernel::Walk4 | Kernel::Walk4Big => 0x40_0abc + ((i * 37 % 512) << 12),
             // As many, in all tables of the last level.
             Kernel::Walk4Long => 0xabc + ((i * 37 % LEAF_TABLES) << 21) + ((i * 101 % 512) << 12),
             // 512 blocks of 2 MiB.
@@ -102,8 +105,13 @@ impl Kernel {
     fn memory(self) -> Vec<u8> {
         match self {
             Kernel::Walk4Long | Kernel::HitLong => long_memory(),
-            _ => memory(),
+            _ => in_order(memory(), self.ee()),
         }
+    }
+
+    /// EE of its regime.
+    fn ee(self) -> u8 {
+        u8::from(self == Kernel::Walk4Big)
     }
 
     /// The kind of its accesses.
@@ -145,7 +153,8 @@ pub fn regime(length: usize) -> Regime {
         wxn: 0,
         hpd0: 0,
         hpd1: 0,
-        spare: [0; 6],
+        ee: 0,
+        spare: [0; 5],
     }
 }
 
@@ -189,6 +198,14 @@ pub fn long_memory() -> Vec<u8> {
     memory
 }
 
+/// These tables in the byte order of `ee`.
+pub fn in_order(mut memory: Vec<u8>, ee: u8) -> Vec<u8> {
+    if ee != 0 {
+        memory.chunks_exact_mut(8).for_each(<[u8]>::reverse);
+    }
+    memory
+}
+
 pub fn put(memory: &mut [u8], offset: usize, value: u64) {
     memory[offset..offset + 8].copy_from_slice(&value.to_le_bytes());
 }
@@ -207,7 +224,10 @@ impl Bed {
     pub fn new(kernel: Kernel) -> Bed {
         let memory = kernel.memory();
         let mut bed = Bed {
-            regime: regime(memory.len()),
+            regime: Regime {
+                ee: kernel.ee(),
+                ..regime(memory.len())
+            },
             addresses: array::from_fn(|i| kernel.address(i as u64)),
             memory: [memory.clone(), memory],
             ours: boundary::Session::empty(),
@@ -240,28 +260,32 @@ impl Bed {
         } = self;
         let (regime, addresses) = (&*regime, &*addresses);
         let kind = kernel.kind();
+        let ee = black_box(regime.ee);
         let (memory, plain_memory) = (&mut memory[..], &mut plain_memory[..]);
         match (kernel, side) {
-            (Kernel::Load, Side::Ours) => offsets(calls, move |at| boundary::load(memory, at)),
-            (Kernel::Load, Side::Plain) => offsets(calls, move |at| plain::load(plain_memory, at)),
+            (Kernel::Load, Side::Ours) => offsets(calls, move |at| boundary::load(memory, at, ee)),
+            (Kernel::Load, Side::Plain) => {
+                offsets(calls, move |at| plain::load(plain_memory, at, ee))
+            }
             (Kernel::Store, Side::Ours) => offsets(calls, move |at| {
-                boundary::store(memory, at, at as u64);
+                boundary::store(memory, at, at as u64, ee);
                 0
             }),
             (Kernel::Store, Side::Plain) => offsets(calls, move |at| {
-                plain::store(plain_memory, at, at as u64);
+                plain::store(plain_memory, at, at as u64, ee);
                 0
             }),
-            (Kernel::Walk4 | Kernel::Walk4Long | Kernel::Block2, Side::Ours) => {
+            (Kernel::Walk4 | Kernel::Walk4Long | Kernel::Walk4Big | Kernel::Block2, Side::Ours) => {
                 answers(calls, kind, addresses, move |access| {
                     boundary::walk(memory, black_box(regime), access)
                 })
             }
-            (Kernel::Walk4 | Kernel::Walk4Long | Kernel::Block2, Side::Plain) => {
-                answers(calls, kind, addresses, move |access| {
-                    plain::walk(plain_memory, black_box(regime), access)
-                })
-            }
+            (
+                Kernel::Walk4 | Kernel::Walk4Long | Kernel::Walk4Big | Kernel::Block2,
+                Side::Plain,
+            ) => answers(calls, kind, addresses, move |access| {
+                plain::walk(plain_memory, black_box(regime), access)
+            }),
             (Kernel::Hit | Kernel::HitLong | Kernel::HitFault | Kernel::Miss, Side::Ours) => {
                 answers(calls, kind, addresses, move |access| {
                     black_box(&mut *ours).access(memory, access)

@@ -29,18 +29,36 @@ const UXN_TABLE: u64 = 1 << 60;
 const NO_EL0: u64 = 1 << 61;
 const NO_WRITE: u64 = 1 << 62;
 
+/// A descriptor from its bytes.
+fn value_of(bytes: [u8; 8], ee: u8) -> u64 {
+    if ee != 0 {
+        u64::from_be_bytes(bytes)
+    } else {
+        u64::from_le_bytes(bytes)
+    }
+}
+
+/// Its bytes.
+fn bytes_of(value: u64, ee: u8) -> [u8; 8] {
+    if ee != 0 {
+        value.to_be_bytes()
+    } else {
+        value.to_le_bytes()
+    }
+}
+
 #[inline(never)]
-pub fn load(memory: &[u8], at: usize) -> u64 {
+pub fn load(memory: &[u8], at: usize, ee: u8) -> u64 {
     match memory.get(at..).and_then(|rest| rest.first_chunk()) {
-        Some(bytes) => u64::from_le_bytes(*bytes),
+        Some(bytes) => value_of(*bytes, ee),
         None => 0,
     }
 }
 
 #[inline(never)]
-pub fn store(memory: &mut [u8], at: usize, value: u64) {
+pub fn store(memory: &mut [u8], at: usize, value: u64, ee: u8) {
     if let Some(bytes) = memory.get_mut(at..).and_then(|rest| rest.get_mut(..8)) {
-        bytes.copy_from_slice(&value.to_le_bytes());
+        bytes.copy_from_slice(&bytes_of(value, ee));
     }
 }
 
@@ -175,7 +193,7 @@ fn find(pool: &[u8], regime: &Regime, address: u64) -> Result<Found, Answer> {
         }
         let offset = offset as usize;
         let bytes = pool[offset..offset + 8].try_into().expect("8 bytes");
-        let value = u64::from_le_bytes(bytes);
+        let value = value_of(bytes, regime.ee);
 
         let wide = value & 2 != 0;
         if value & 1 == 0 || (!wide && (left == 0 || left == 3)) {
@@ -296,7 +314,7 @@ fn translate(memory: &mut [u8], regime: &Regime, access: &Access) -> (Answer, Op
     let answer = leaf.judge(regime, access, reads);
     if answer.accessed != 0 || answer.dirtied != 0 {
         leaf.mark(&answer);
-        pool[offset..offset + 8].copy_from_slice(&leaf.value.to_le_bytes());
+        pool[offset..offset + 8].copy_from_slice(&bytes_of(leaf.value, regime.ee));
     }
     (answer, Some(leaf))
 }
@@ -379,7 +397,7 @@ impl Session {
             return 8;
         }
         let offset = regime.start + (address - regime.address) as usize;
-        memory[offset..offset + 8].copy_from_slice(&value.to_le_bytes());
+        memory[offset..offset + 8].copy_from_slice(&bytes_of(value, regime.ee));
         0
     }
 

@@ -31,6 +31,7 @@ static const struct extent largest = {
 static struct extent extent;
 static uint8_t memory[VMSA_MEMORY_LIMIT];
 static uint64_t pool;             /* its physical address, as a rule */
+static int big;                   /* the byte order of its tables, as a rule */
 static struct vmsa_regime regime; /* the last one that was accepted */
 static struct vmsa_session session;
 
@@ -62,7 +63,7 @@ static int one_in(unsigned n)
 /* How the calls ended, and the number over all that they left. */
 
 static unsigned successes, faults, refusals[UINT8_MAX + 1], accepted, held,
-    under, accessed, dirtied;
+    under, accessed, accessed_big, dirtied;
 static uint64_t digest = UINT64_C(0xCBF29CE484222325);
 
 static void add(const void *from, size_t size)
@@ -88,7 +89,8 @@ static void add_reply(unsigned refusal)
         refusals[refusal]++;
 }
 
-static void add_answer(const struct vmsa_answer *answer)
+/* The answer under a regime with this EE. */
+static void add_answer(const struct vmsa_answer *answer, uint8_t ee)
 {
     add(answer, sizeof *answer);
     if (answer->tag == VMSA_REFUSED)
@@ -99,6 +101,7 @@ static void add_answer(const struct vmsa_answer *answer)
         successes++;
     held += answer->cacheable && answer->reads == 0;
     accessed += answer->accessed;
+    accessed_big += ee != 0 && answer->accessed;
     dirtied += answer->dirtied;
 }
 
@@ -142,17 +145,24 @@ static uint64_t descriptor(void)
     return (pool + 4096 * page) | flags | 3;
 }
 
+/* The byte order of the world's tables; one in 32 is the other. */
+static int order(void)
+{
+    return one_in(32) ? !big : big;
+}
+
 static void build_tables(void)
 {
     uint64_t value;
     size_t page, i;
-    int byte;
+    int byte, last;
 
     for (page = first_page(); page < extent.memory; page++)
         for (i = 0; i < INDEXES; i++) {
             value = descriptor();
+            last = order() ? 7 : 0;
             for (byte = 0; byte < 8; byte++)
-                memory[page * 4096 + indexes[i] * 8 + (size_t)byte] =
+                memory[page * 4096 + indexes[i] * 8 + (size_t)(byte ^ last)] =
                     (uint8_t)(value >> (8 * byte));
         }
 }
@@ -205,6 +215,7 @@ static struct vmsa_regime random_regime(void)
     r.wxn = (uint8_t)one_in(4);
     r.hpd0 = (uint8_t)one_in(4);
     r.hpd1 = (uint8_t)one_in(4);
+    r.ee = (uint8_t)order();
     memset(r.spare, (int)below(256), sizeof r.spare);
     return r;
 }
@@ -290,7 +301,7 @@ static void walk(void)
 
     memset(&answer, 0xAA, sizeof answer);
     vmsa_walk(memory, length_now(), &r, &access, &answer);
-    add_answer(&answer);
+    add_answer(&answer, r.ee);
 }
 
 static void access_session(void)
@@ -300,7 +311,7 @@ static void access_session(void)
 
     memset(&answer, 0xAA, sizeof answer);
     vmsa_session_access(&session, memory, length_now(), &access, &answer);
-    add_answer(&answer);
+    add_answer(&answer, session.regime.ee);
     under += answer.cacheable && answer.reads == 0 &&
              session.entries[access.address / 4096 % VMSA_ENTRIES].tables != 0;
 }
@@ -326,6 +337,7 @@ static void run_world(void)
     int i;
 
     pool = one_in(8) ? (UINT64_C(1) << 48) - 4096 * extent.pool : 0x40000000u;
+    big = one_in(2);
     regime = random_regime();
     memset(memory, 0, memory_bytes());
     build_tables();
@@ -350,9 +362,10 @@ int main(void)
         extent = i < LARGE ? largest : usual;
         run_world();
     }
-    printf("%u successes (%u set the Access flag, %u marked dirty), %u faults, "
-           "%u of both from an entry (%u under tables that take away)\n",
-           successes, accessed, dirtied, faults, held, under);
+    printf("%u successes (%u set the Access flag, %u of them with EE on, "
+           "%u marked dirty), %u faults, %u of both from an entry (%u under "
+           "tables that take away)\n",
+           successes, accessed, accessed_big, dirtied, faults, held, under);
     printf("%u accepted; refused, by number:", accepted);
     for (i = 1; i <= UINT8_MAX; i++)
         if (refusals[i] != 0)

@@ -1,8 +1,8 @@
 /*
  * Runs the library over the worked cases P1 to P12, every refusal, the largest
- * pool and memory, a script of a session, the bits of tables, the spare bytes,
- * VMSA_REGIME_INIT and the texts; prints how many checks were made, and how
- * many failed.
+ * pool and memory, a script of a session, the bits of tables, the spare bytes
+ * and VMSA_REGIME_INIT, all of it in both byte orders; over what EE turns; and
+ * over the texts. Prints how many checks were made, and how many failed.
  *
  * Each call goes through one of the expect functions. It takes what the call
  * is given and its answer; want has what the call is to leave of memory and
@@ -52,6 +52,9 @@ static struct world {
     uint8_t large[GUARD + VMSA_MEMORY_LIMIT + 1 + GUARD];
 } lent, want;
 
+/* EE of the worked regime, and so the byte order in which tables are stored. */
+static uint8_t ee;
+
 /* Checks */
 
 static unsigned checks, failures;
@@ -62,7 +65,7 @@ static void check(const char *name, const char *part, int ok)
     if (ok)
         return;
     failures++;
-    printf("%s: %s\n", name, part);
+    printf("%s%s: %s\n", name, ee ? ", EE" : "", part);
 }
 
 static void check_bytes(const char *name, const char *part, const void *got,
@@ -228,18 +231,27 @@ static struct vmsa_regime worked_regime(void)
     regime.disabled1 = 0;
     regime.ha = 1;
     regime.hd = 1;
+    regime.ee = ee;
     regime.attributes = UINT64_MAX;
     return regime;
 }
 
-/* A descriptor at a physical address; the memory's first byte is at POOL. */
+/* Bytes at a physical address; the memory's first is at POOL. */
+static void put_bytes(struct world *world, uint64_t address,
+                      const uint8_t bytes[8])
+{
+    memcpy(world->room + GUARD + (address - POOL), bytes, 8);
+}
+
+/* A descriptor at a physical address, in the byte order of ee. */
 static void put(struct world *world, uint64_t address, uint64_t value)
 {
+    uint8_t bytes[8];
     int i;
 
     for (i = 0; i < 8; i++)
-        world->room[GUARD + (address - POOL) + (uint64_t)i] =
-            (uint8_t)(value >> (8 * i));
+        bytes[ee ? 7 - i : i] = (uint8_t)(value >> (8 * i));
+    put_bytes(world, address, bytes);
 }
 
 /* A descriptor to start from: before a call and after it. */
@@ -247,6 +259,12 @@ static void given(uint64_t address, uint64_t value)
 {
     put(&lent, address, value);
     put(&want, address, value);
+}
+
+static void given_bytes(uint64_t address, const uint8_t bytes[8])
+{
+    put_bytes(&lent, address, bytes);
+    put_bytes(&want, address, bytes);
 }
 
 /* The fresh session, and in both rooms so many zeros, 0x5A around them. */
@@ -265,18 +283,45 @@ static void lend(uint8_t *room, uint8_t *wanted, size_t size, size_t zeros)
     vmsa_session_empty(&lent.session);
 }
 
+/* The descriptors of the worked cases, by level, and their bytes by ee. */
+#define LEVELS 4
+
+static const struct on_the_way {
+    uint64_t address, value;
+    uint8_t bytes[2][8];
+} on_the_way[LEVELS] = {
+    { POOL, UINT64_C(0x40001003),
+      { { 0x03, 0x10, 0x00, 0x40, 0x00, 0x00, 0x00, 0x00 },
+        { 0x00, 0x00, 0x00, 0x00, 0x40, 0x00, 0x10, 0x03 } } },
+    { SECOND, UINT64_C(0x40002003),
+      { { 0x03, 0x20, 0x00, 0x40, 0x00, 0x00, 0x00, 0x00 },
+        { 0x00, 0x00, 0x00, 0x00, 0x40, 0x00, 0x20, 0x03 } } },
+    { THIRD, TABLE,
+      { { 0x03, 0x30, 0x00, 0x40, 0x00, 0x00, 0x00, 0x00 },
+        { 0x00, 0x00, 0x00, 0x00, 0x40, 0x00, 0x30, 0x03 } } },
+    { LEAF, CLEAN,
+      { { 0xC3, 0x53, 0x00, 0x80, 0x00, 0x00, 0x08, 0x00 },
+        { 0x00, 0x08, 0x00, 0x00, 0x80, 0x00, 0x53, 0xC3 } } }
+};
+
 static void given_tables(void)
 {
-    given(POOL, 0x40001003);
-    given(SECOND, 0x40002003);
-    given(THIRD, TABLE);
-    given(LEAF, CLEAN);
+    int i;
+
+    for (i = 0; i < LEVELS; i++)
+        given(on_the_way[i].address, on_the_way[i].value);
 }
 
-/* The memory of the worked cases, exactly the pool, and the fresh session. */
-static void fresh(void)
+/* A memory of zeros, exactly the pool, and the fresh session. */
+static void blank(void)
 {
     lend(lent.usual, want.usual, sizeof want.usual, LENGTH);
+}
+
+/* The memory of the worked cases, and the fresh session. */
+static void fresh(void)
+{
+    blank();
     given_tables();
 }
 
@@ -1111,6 +1156,199 @@ static void test_odd_updates(void)
     expect_access("hd alone, AF clear", a_read(), fault(11, 3, 4));
 }
 
+/* Byte order */
+
+/* From here on regimes and descriptors are of the other byte order. */
+static void turn(void)
+{
+    ee = !ee;
+}
+
+/* The session is to have this regime, and nothing held. */
+static void expect_regime(const char *name, struct vmsa_regime regime)
+{
+    holds_nothing();
+    want.session.regime = regime;
+    want.session.regime.ee = regime.ee != 0;
+    want.session.set = 1;
+    expect_set(name, regime, VMSA_ACCEPTED);
+}
+
+/* P2 byte for byte: a walk, and a session, whose stores build the tables. */
+static void test_order_bytes(void)
+{
+    static const uint8_t after[2][8] = {
+        { 0x43, 0x57, 0x00, 0x80, 0x00, 0x00, 0x08, 0x00 },
+        { 0x00, 0x08, 0x00, 0x00, 0x80, 0x00, 0x57, 0x43 }
+    };
+    const struct vmsa_answer answer = found(FRAME + 0xABC, AF | DIRTIED, 4);
+    int i;
+
+    blank();
+    for (i = 0; i < LEVELS; i++)
+        given_bytes(on_the_way[i].address, on_the_way[i].bytes[ee]);
+    put_bytes(&want, LEAF, after[ee]);
+    expect_walk("P2, bytes", worked_regime(), a_write(), answer);
+
+    blank();
+    expect_regime("P2, bytes", worked_regime());
+    for (i = 0; i < LEVELS; i++) {
+        put_bytes(&want, on_the_way[i].address, on_the_way[i].bytes[ee]);
+        expect_store("P2, bytes", on_the_way[i].address, on_the_way[i].value,
+                     VMSA_ACCEPTED);
+    }
+    put_bytes(&want, LEAF, after[ee]);
+    holds(PAGE, DIRTY);
+    expect_access("P2, bytes", a_write(), answer);
+    expect_access("P2, bytes, held", a_write(), found(FRAME + 0xABC, 0, 0));
+}
+
+/* A descriptor in the other order is none in this one: bit 0 is clear. */
+static void test_order_mixed(void)
+{
+    unsigned level;
+
+    for (level = 0; level < LEVELS; level++) {
+        const struct vmsa_answer answer =
+            fault(4 + level, level, (uint8_t)(level + 1));
+
+        fresh();
+        given_bytes(on_the_way[level].address, on_the_way[level].bytes[!ee]);
+        expect_walk("other order", worked_regime(), a_write(), answer);
+        expect_regime("other order", worked_regime());
+        expect_access("other order", a_write(), answer);
+    }
+}
+
+/* EE is turned over the same memory, and the tables are then stored again. */
+static void test_order_turned(void)
+{
+    const uint64_t output = FRAME + 0xABC;
+    struct vmsa_regime bad = worked_regime();
+    int i;
+
+    started();
+    bad.ee = !ee;
+    bad.tsz0 = 0;
+    expect_set("turned, refused", bad, 3);
+    expect_access("turned, refused", a_read(), found(output, 0, 0));
+
+    turn();
+    expect_regime("turned", worked_regime());
+    expect_walk("turned", worked_regime(), a_read(), fault(4, 0, 1));
+    expect_access("turned", a_read(), fault(4, 0, 1));
+    for (i = 0; i < LEVELS; i++) {
+        put(&want, on_the_way[i].address, on_the_way[i].value);
+        expect_store("turned", on_the_way[i].address, on_the_way[i].value,
+                     VMSA_ACCEPTED);
+    }
+    put(&want, LEAF, READ);
+    holds(PAGE, READ);
+    expect_access("turned, stored", a_read(), found(output, AF, 4));
+    expect_access("turned, held", a_read(), found(output, 0, 0));
+    put(&want, LEAF, DIRTY);
+    holds(PAGE, DIRTY);
+    expect_access("turned, marked", a_write(), found(output, DIRTIED, 4));
+
+    turn();
+    expect_regime("turned back", worked_regime());
+    expect_access("turned back", a_read(), fault(4, 0, 1));
+}
+
+/*
+ * A block of level 2 that is writable-clean in both orders. What is AP[2] in
+ * one is bit 63 in the other, where it has no say.
+ */
+static void test_order_both(void)
+{
+    static const uint8_t bytes[] = {
+        0x81, 0x0F, 0x20, 0x80, 0x00, 0x40, 0x0F, 0xC1
+    };
+    static const uint64_t leaves[] = { /* by ee, once marked in both */
+        UINT64_C(0x410F400080200F01), UINT64_C(0x010F208000400F41)
+    };
+    struct vmsa_access access = access_of(VMSA_WRITE, 0x12340, 8);
+    int i;
+
+    access.el0 = 0;
+    fresh();
+    given_bytes(POOL, bytes);
+    for (i = 0; i < 4; i++, turn()) {
+        const uint64_t leaf = leaves[ee] | (uint64_t)(i == 0) << 63;
+        const uint64_t frame = leaf & UINT64_C(0xFFFFFFE00000);
+        struct vmsa_regime regime = worked_regime();
+        struct vmsa_answer answer =
+            found(frame + access.address, i < 2 ? DIRTIED : 0, 1);
+
+        regime.tsz0 = 39;
+        answer.level = 2;
+        answer.nonglobal = 1;
+        expect_regime("both", regime);
+        put(&want, POOL, leaf);
+        holds(access.address >> 12, leaf);
+        want.session.entries[access.address >> 12].left = 1;
+        expect_access("both", access, answer);
+        answer.reads = 0;
+        answer.dirtied = 0;
+        expect_access("both, held", access, answer);
+    }
+}
+
+/* Every value of the byte, in a regime that is given. */
+static void test_order_values(void)
+{
+    unsigned value;
+
+    for (value = 0; value <= UINT8_MAX; value++) {
+        const int ours = (value != 0) == ee;
+        struct vmsa_regime regime = worked_regime();
+        struct vmsa_answer answer = fault(4, 0, 1);
+
+        if (ours)
+            answer = found(FRAME + 0xABC, AF | DIRTIED, 4);
+        regime.ee = (uint8_t)value;
+        fresh();
+        put(&want, LEAF, ours ? DIRTY : CLEAN);
+        expect_walk("any EE", regime, a_write(), answer);
+
+        fresh();
+        expect_regime("any EE", regime);
+        put(&want, LEAF, ours ? DIRTY : CLEAN);
+        if (ours)
+            holds(PAGE, DIRTY);
+        expect_access("any EE", a_write(), answer);
+    }
+}
+
+/*
+ * Every value of the byte, where a session has it: no call leaves one above 1.
+ * A hit has nothing to read, so that the entry answers in either order.
+ */
+static void test_order_held(void)
+{
+    const struct vmsa_access next = access_of(VMSA_READ, ADDRESS + 4096, 4);
+    const uint8_t first = ee;
+    unsigned value;
+
+    started();
+    for (value = 0; value <= UINT8_MAX; value++) {
+        const int ours = (value != 0) == first;
+
+        lent.session.regime.ee = (uint8_t)value;
+        want.session = lent.session;
+        expect_access("held EE, hit", a_read(), found(FRAME + 0xABC, 0, 0));
+        expect_access("held EE, miss", next,
+                      ours ? fault(7, 3, 4) : fault(4, 0, 1));
+        if (!ours)
+            expect_access("held EE, mark", a_write(), fault(4, 0, 1));
+        ee = value != 0;
+        put(&want, POOL + LENGTH - 8, READ + value);
+        expect_store("held EE, store", POOL + LENGTH - 8, READ + value,
+                     VMSA_ACCEPTED);
+        ee = first;
+    }
+}
+
 /* Spare bytes */
 
 static void test_spare_given(void)
@@ -1293,9 +1531,8 @@ static void test_fault_texts(void)
     }
 }
 
-int main(void)
+static void test_walks(void)
 {
-    check("library", "version", vmsa_version() == VMSA_VERSION);
     test_worked();
     test_worked_leaf();
     test_worked_tables();
@@ -1310,6 +1547,10 @@ int main(void)
     test_refusal_order();
     test_largest();
     test_above_limits();
+}
+
+static void test_sessions(void)
+{
     test_script();
     test_entries();
     test_tables();
@@ -1323,8 +1564,28 @@ int main(void)
     test_spare_set();
     test_empty();
     test_init();
+}
+
+static void test_order(void)
+{
+    test_order_bytes();
+    test_order_mixed();
+    test_order_turned();
+    test_order_both();
+    test_order_values();
+    test_order_held();
+}
+
+int main(void)
+{
+    check("library", "version", vmsa_version() == VMSA_VERSION);
     test_refusal_texts();
     test_fault_texts();
+    for (ee = 0; ee < 2; ee++) {
+        test_walks();
+        test_sessions();
+        test_order();
+    }
     printf("%u checks, %u failed\n", checks, failures);
     return failures != 0;
 }

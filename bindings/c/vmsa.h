@@ -15,10 +15,10 @@
  *
  * The library is not told of, and leaves alone: top-byte-ignore, 52-bit
  * addresses, PAN and E0PD, the Contiguous bit, permission indirection,
- * protected table walks, Access flags of tables, ASIDs, big-endian tables,
- * granules other than 4 KiB, a second stage, Realm and Secure state, alignment
- * checking of Normal memory. docs/RULES.md, section 14, says for each what
- * happens here and what hardware would do.
+ * protected table walks, Access flags of tables, ASIDs, granules other than
+ * 4 KiB, a second stage, Realm and Secure state, alignment checking of Normal
+ * memory. docs/RULES.md, section 14, says for each what happens here and what
+ * hardware would do.
  *
  * Out of contract
  *
@@ -47,9 +47,9 @@
  *   - It lends a copy of the pool, made by aligned loads of 8 bytes. A success
  *     changes at most one descriptor of the copy; before it uses the answer,
  *     the monitor puts that change into the guest's table, by compare-and-swap
- *     with the old value. Where that fails the session, if one was used, holds
- *     a mark that was not made: empty it (vmsa_session_invalidate_all), take a
- *     new copy and call again.
+ *     of the old 8 bytes with the new, as they stand, whatever ee is. Where
+ *     that fails the session, if one was used, holds a mark that was not made:
+ *     empty it (vmsa_session_invalidate_all), take a new copy and call again.
  * A stepwise walk that hands out the expected and the new value is planned.
  *
  * Two threads may call at the same time unless they share a memory, a session
@@ -70,7 +70,7 @@ extern "C" {
 #endif
 
 /* The version of this interface; vmsa_version() gives the library's. */
-#define VMSA_VERSION 7u
+#define VMSA_VERSION 8u
 
 /* The most bytes of a lent memory, and of a pool. */
 #define VMSA_MEMORY_LIMIT 16777216u
@@ -83,6 +83,8 @@ extern "C" {
  * A translation regime: the values that the guest has in TTBR0_EL1,
  * TTBR1_EL1, TCR_EL1, MAIR_EL1 and SCTLR_EL1, and where its tables lie.
  * Start from VMSA_REGIME_INIT: T 0, as zeroed bytes have it, is refused.
+ * A session keeps what it was given: when the guest changes one of these
+ * values, SCTLR_EL1.EE too, set the regime again.
  */
 struct vmsa_regime {
     size_t start;        /* offset of the pool in the memory */
@@ -103,15 +105,19 @@ struct vmsa_regime {
     uint8_t hpd0;        /* HPD0: what tables of range 0 take away from all
                             below them (see vmsa_walk) does not count */
     uint8_t hpd1;        /* HPD1: the same for range 1 */
-    uint8_t spare[6];
+    uint8_t ee;          /* SCTLR_EL1.EE: the 8 bytes of each descriptor, of
+                            both ranges, are big-endian, or else
+                            little-endian; no say in a device's data */
+    uint8_t spare[5];
 };
 
 /*
  * A regime with no pool, both ranges disabled with T 16 and HPD off, 48 bits of
- * output, no updates and Device attributes; a call takes it once it has a pool.
+ * output, no updates, little-endian descriptors and Device attributes; a call
+ * takes it once it has a pool.
  */
 #define VMSA_REGIME_INIT \
-    { 0, 0, 0, 0, 0, 0, 16, 16, 1, 1, 5, 0, 0, 0, 0, 0, { 0, 0, 0, 0, 0, 0 } }
+    { 0, 0, 0, 0, 0, 0, 16, 16, 1, 1, 5, 0, 0, 0, 0, 0, 0, { 0, 0, 0, 0, 0 } }
 
 /*
  * The kinds of an access. A kind above 5 is taken as VMSA_UPDATE, so that no
@@ -211,7 +217,7 @@ struct vmsa_answer {
  */
 struct vmsa_entry {
     uint64_t page;  /* bits 63 to 12 of the guest's address */
-    uint64_t value; /* the leaf descriptor */
+    uint64_t value; /* the leaf descriptor: a number, in which ee has no say */
     uint8_t left;   /* levels below it: 3 less its level */
     uint8_t held;
     uint8_t tables; /* bits 3 to 0: bits 62 to 59 of those tables, or-ed;
@@ -238,6 +244,7 @@ uint32_t vmsa_version(void);
  * leaf's Access flag is set; with hd too, a write or update of a
  * writable-clean page (DBM and AP[2] both 1, and no bit 62 above it) also
  * clears AP[2]. Otherwise, and for any probe, no byte of the memory changes.
+ * Every descriptor is read, and the leaf written, in the byte order of ee.
  *
  * A table descriptor takes permissions away from all that lies below it: with
  * bit 62 (APTable[1]) nothing may be written, and so nothing is marked dirty;
@@ -268,9 +275,10 @@ void vmsa_session_access(struct vmsa_session *session,
                          struct vmsa_answer *answer);
 
 /*
- * Stores a descriptor at a physical address in the pool. Gives 0, or the
- * refusal. The entries stay as they are: call vmsa_session_invalidate_all
- * before the next access that is to see the store.
+ * Stores a descriptor at a physical address in the pool. The value is a number:
+ * its 8 bytes are written in the byte order of the session's regime. Gives 0,
+ * or the refusal. The entries stay as they are: call
+ * vmsa_session_invalidate_all before the next access that is to see the store.
  */
 uint8_t vmsa_session_store(struct vmsa_session *session,
                            uint8_t *memory, size_t length,
@@ -367,7 +375,8 @@ VMSA_NEXT(regime, ha, hd, 54);
 VMSA_NEXT(regime, hd, wxn, 55);
 VMSA_NEXT(regime, wxn, hpd0, 56);
 VMSA_NEXT(regime, hpd0, hpd1, 57);
-VMSA_NEXT(regime, hpd1, spare, 58);
+VMSA_NEXT(regime, hpd1, ee, 58);
+VMSA_NEXT(regime, ee, spare, 59);
 VMSA_LAST(regime, spare, 64);
 
 VMSA_NEXT(access, address, size, 8);

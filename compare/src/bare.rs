@@ -17,7 +17,7 @@ fn words_read(regime: &Regime, memory: &[u8], walk: &Walk) -> Vec<(usize, u64)> 
     let visited = walk.visited.iter();
     let offsets = visited.filter_map(|&at| offset_in_memory(&regime.pool, at));
     offsets
-        .map(|at| (at, read_descriptor(memory, at)))
+        .map(|at| (at, read_descriptor(memory, at, regime.ee)))
         .collect()
 }
 
@@ -68,6 +68,7 @@ pub fn check(
     memory: &mut [u8],
     mut again: impl FnMut(&mut [u8]) -> CAnswer,
 ) -> Result<bool, String> {
+    let ee = regime.ee;
     let words = words_read(regime, memory, walk);
     if words.iter().all(|(_, word)| word & UPPER == 0) {
         return Ok(false);
@@ -79,16 +80,16 @@ pub fn check(
         table => table,
     };
     for &(at, word) in &words {
-        write_descriptor(memory, at, bare(at, word));
+        write_descriptor(memory, at, bare(at, word), ee);
     }
     let other = again(memory);
     let told = u64::from(answer.accessed) << AF | u64::from(answer.dirtied) << AP2;
     let mark = |at| if is_leaf(at) { told } else { 0 };
     let mut words_left = words.iter();
     let same =
-        words_left.all(|&(at, word)| read_descriptor(memory, at) == bare(at, word) ^ mark(at));
+        words_left.all(|&(at, word)| read_descriptor(memory, at, ee) == bare(at, word) ^ mark(at));
     for &(at, word) in &words {
-        write_descriptor(memory, at, word);
+        write_descriptor(memory, at, word, ee);
     }
     match (other == *answer, same) {
         (false, _) => Err(format!("without the tables' bits it answers {other:x?}")),

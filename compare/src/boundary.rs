@@ -36,7 +36,8 @@ pub struct CRegime {
     pub wxn: u8,
     pub hpd0: u8,
     pub hpd1: u8,
-    pub spare: [u8; 6],
+    pub ee: u8,
+    pub spare: [u8; 5],
 }
 
 #[repr(C)]
@@ -91,6 +92,7 @@ impl CRegime {
             ha: self.ha != 0,
             hd: self.hd != 0,
             wxn: self.wxn != 0,
+            ee: self.ee != 0,
             attributes: self.attributes.to_le_bytes(),
         }
     }
@@ -162,8 +164,9 @@ impl Spelling {
                 ..Spelling::PLAIN
             };
         }
+        let any = random.between(1, 0xFF) as u8;
         Spelling {
-            truth: random.pick(&[1, 2, 3, 4, 16, 0x7F, 0x80, 0xFE, 0xFF]),
+            truth: random.pick(&[1, 2, 3, 4, 16, 0x7F, 0x80, 0xFE, 0xFF, any, any, any]),
             update: random.pick(&[2, 6, 7, 8, 9, 10, 0x80, 0x85, 0xFE, 0xFF]),
             noise,
         }
@@ -202,6 +205,7 @@ impl Spelling {
             wxn: self.flag(regime.wxn),
             hpd0: self.flag(lower.hpd),
             hpd1: self.flag(upper.hpd),
+            ee: self.flag(regime.ee),
             spare: self.spare(1),
         }
     }

@@ -4,10 +4,10 @@
 use compare::boundary::{plain_answer, CAnswer, Library};
 use compare::cases::{Case, Runner};
 use compare::reference::{
-    self, offset_in_memory, read_descriptor, write_descriptor, Walk, MEMORY_LIMIT,
+    self, offset_in_memory, read_descriptor, write_descriptor, Regime, Walk, MEMORY_LIMIT,
 };
 use compare::tally::Tally;
-use compare::{bare, promises};
+use compare::{bare, promises, reversed};
 
 /// Bytes kept on both sides of the lent memory; nobody may touch them.
 const MARGIN: usize = 64;
@@ -48,7 +48,7 @@ impl Comparison {
     ) -> Option<String> {
         let lent = &mut self.arena[start..start + before.len()];
         if let Some((leaf, at)) = walk.leaf {
-            write_descriptor(lent, at, leaf.descriptor);
+            write_descriptor(lent, at, leaf.descriptor, case.regime.ee);
         }
         let (regime, access) = (case.regime, case.access);
         let again = |lent: &mut [u8]| self.library.walk(lent, regime, access, case.spelling);
@@ -59,6 +59,44 @@ impl Comparison {
             Ok(true) if !self.margins_stand(start, before.len()) => other_bytes(),
             Ok(_) => None,
         }
+    }
+
+    /// Walks once more in the other byte order, where that is due, over the
+    /// memory as it was before; what is wrong with that.
+    fn wrong_reversed(
+        &mut self,
+        case: &Case,
+        start: usize,
+        length: usize,
+        answer: &CAnswer,
+    ) -> Option<String> {
+        if !reversed::is_due(self.number) {
+            return None;
+        }
+        let lent = &mut self.arena[start..start + length];
+        let again = |lent: &mut [u8], other: &Regime| {
+            self.library.walk(lent, other, case.access, case.spelling)
+        };
+        match reversed::check(case.regime, answer, &self.expected, lent, again) {
+            Err(words) => Some(words),
+            Ok(true) if !self.margins_stand(start, length) => {
+                Some("in the other byte order bytes beside the memory were written".to_string())
+            }
+            Ok(_) => None,
+        }
+    }
+
+    /// Walks again in both of these ways.
+    fn wrong_again(
+        &mut self,
+        case: &Case,
+        start: usize,
+        before: &[u8],
+        walk: &Walk,
+        answer: &CAnswer,
+    ) -> Option<String> {
+        self.wrong_bare(case, start, before, walk, answer)
+            .or_else(|| self.wrong_reversed(case, start, before.len(), answer))
     }
 
     /// Whether nobody has written beside the memory.
@@ -89,7 +127,7 @@ impl Comparison {
         for &entry in &walk.visited {
             match offset_in_memory(&case.regime.pool, entry) {
                 Some(offset) => {
-                    let descriptor = read_descriptor(before, offset);
+                    let descriptor = read_descriptor(before, offset, case.regime.ee);
                     println!("descriptor at {entry:#x}: {descriptor:#018x}");
                 }
                 None => println!("descriptor at {entry:#x}: not in the pool"),
@@ -162,7 +200,7 @@ impl Runner for Comparison {
         if !why.is_empty() {
             self.fail(case, memory, after, &walk, &answer, &why);
         }
-        if let Some(words) = self.wrong_bare(case, start, memory, &walk, &answer) {
+        if let Some(words) = self.wrong_again(case, start, memory, &walk, &answer) {
             let after = &self.arena[start..end];
             self.fail(case, memory, after, &walk, &answer, &[words]);
         }

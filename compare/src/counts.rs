@@ -1,5 +1,5 @@
 //! Counts of things to meet, told under headings. Everything that can occur
-//! must be met, and nothing else may be.
+//! must be met, once or as often as it says, and nothing else may be.
 
 use std::collections::{BTreeMap, BTreeSet};
 use std::fmt::Display;
@@ -10,6 +10,10 @@ pub trait Countable: Copy + Ord + Display {
     fn heading(&self) -> &'static str;
     /// Everything that can occur.
     fn possible() -> BTreeSet<Self>;
+    /// How often it must be met at least.
+    fn least(&self) -> u64 {
+        1
+    }
 }
 
 pub struct Counts<T> {
@@ -29,9 +33,14 @@ impl<T: Countable> Counts<T> {
         *self.met.entry(thing).or_default() += 1;
     }
 
+    fn count(&self, thing: &T) -> u64 {
+        self.met.get(thing).copied().unwrap_or(0)
+    }
+
+    /// What was met less often than it must be.
     pub fn missing(&self) -> Vec<T> {
-        let met = |thing: &T| self.met.contains_key(thing);
-        T::possible().into_iter().filter(|t| !met(t)).collect()
+        let seldom = |thing: &T| self.count(thing) < thing.least();
+        T::possible().into_iter().filter(seldom).collect()
     }
 
     pub fn strangers(&self) -> Vec<T> {
@@ -45,7 +54,7 @@ impl<T: Countable> Counts<T> {
     pub fn report(&self) -> bool {
         let mut heading = "";
         for thing in &T::possible() {
-            let count = self.met.get(thing).copied().unwrap_or(0);
+            let count = self.count(thing);
             if thing.heading() == heading {
                 print!(", ");
             } else {
@@ -60,7 +69,8 @@ impl<T: Countable> Counts<T> {
         println!();
         let missing = self.missing();
         for thing in &missing {
-            println!("not met: {}: {thing}", thing.heading());
+            let least = thing.least();
+            println!("met less than {least} times: {}: {thing}", thing.heading());
         }
         let strangers = self.strangers();
         for thing in &strangers {

@@ -29,10 +29,15 @@ enum Change {
     Wider,
 }
 
-fn word(memory: &[u8], offset: usize) -> u64 {
-    let mut bytes = [0; 8];
-    bytes.copy_from_slice(&memory[offset..offset + 8]);
-    u64::from_le_bytes(bytes)
+/// The word at an offset, each byte in its place by the regime's order.
+fn word(regime: &Regime, memory: &[u8], offset: usize) -> u64 {
+    let bytes = memory[offset..offset + 8].iter();
+    let add = |sum, (place, &byte)| sum | u64::from(byte) << (8 * place);
+    if regime.ee {
+        bytes.rev().enumerate().fold(0, add)
+    } else {
+        bytes.enumerate().fold(0, add)
+    }
 }
 
 fn change(before: &[u8], after: &[u8]) -> Change {
@@ -115,7 +120,7 @@ pub fn check(
         Change::None => {}
         Change::Wider => return Err("more than one descriptor changed".to_string()),
         Change::Word(offset) => {
-            let (old, new) = (word(before, offset), word(after, offset));
+            let (old, new) = (word(regime, before, offset), word(regime, after, offset));
             demand(
                 answer.tag == SUCCESS,
                 "memory changed by a fault or a refusal",
@@ -200,7 +205,7 @@ pub fn check(
             answer.dirtied == 0 || !bit(sum, AP_TABLE_1),
             "dirtied under a table's bit 62",
         )?;
-        let leaf = word(after, offset);
+        let leaf = word(regime, after, offset);
         if matches!(access.kind, Kind::Write | Kind::Update) {
             demand(
                 leaf & AF_BIT != 0 && leaf & AP2_BIT == 0,

@@ -1,9 +1,10 @@
 //! The second walker: stage 1, EL1&0, 4 KiB granule.
 //!
 //! It was written from document 01 of the customer; what the customer's
-//! requests change (so far) from these and from docs/RULES.md.
-//! It shares nothing with the library or its bindings. The places cited are
-//! those of docs/RULES.md, which says the same in numbered sections.
+//! requests change (so far) from these and from
+//! docs/RULES.md. It shares nothing with the library or its bindings. The
+//! places cited are those of docs/RULES.md, which says the same in numbered
+//! sections.
 //!
 //! One loop goes down the levels and keeps the list of descriptor addresses;
 //! sums that could pass 2^64 are made in 128 bits.
@@ -67,6 +68,8 @@ pub struct Regime {
     pub ha: bool,
     pub hd: bool,
     pub wxn: bool,
+    /// Descriptors stand in the pool highest byte first (RULES 2.3 and 3.1).
+    pub ee: bool,
     pub attributes: [u8; 8],
 }
 
@@ -121,6 +124,23 @@ pub enum FaultKind {
     Permission,
     WalkAbort,
     Alignment,
+}
+
+impl FaultKind {
+    pub const ALL: [FaultKind; 6] = [
+        FaultKind::AddressSize,
+        FaultKind::Translation,
+        FaultKind::AccessFlag,
+        FaultKind::Permission,
+        FaultKind::WalkAbort,
+        FaultKind::Alignment,
+    ];
+
+    /// Those of RULES 6.6 to 6.8.
+    pub fn is_of_leaf(self) -> bool {
+        use FaultKind::{AccessFlag, Alignment, Permission};
+        matches!(self, AccessFlag | Permission | Alignment)
+    }
 }
 
 /// A fault and its level, before the rest of the answer is known.
@@ -267,14 +287,28 @@ pub fn offset_in_memory(pool: &Pool, address: u64) -> Option<usize> {
     }
 }
 
-pub fn read_descriptor(memory: &[u8], offset: usize) -> u64 {
-    let mut bytes = [0; 8];
-    bytes.copy_from_slice(&memory[offset..offset + 8]);
-    u64::from_le_bytes(bytes)
+/// A descriptor's bytes (RULES 2.3): with EE the highest comes first.
+pub fn descriptor_bytes(descriptor: u64, ee: bool) -> [u8; 8] {
+    if ee {
+        descriptor.to_be_bytes()
+    } else {
+        descriptor.to_le_bytes()
+    }
 }
 
-pub fn write_descriptor(memory: &mut [u8], offset: usize, descriptor: u64) {
-    memory[offset..offset + 8].copy_from_slice(&descriptor.to_le_bytes());
+/// The descriptor that the 8 bytes at an offset say.
+pub fn read_descriptor(memory: &[u8], offset: usize, ee: bool) -> u64 {
+    let mut bytes = [0; 8];
+    bytes.copy_from_slice(&memory[offset..offset + 8]);
+    if ee {
+        u64::from_be_bytes(bytes)
+    } else {
+        u64::from_le_bytes(bytes)
+    }
+}
+
+pub fn write_descriptor(memory: &mut [u8], offset: usize, descriptor: u64, ee: bool) {
+    memory[offset..offset + 8].copy_from_slice(&descriptor_bytes(descriptor, ee));
 }
 
 // ----------------------------------------------------------------- the walk
@@ -325,7 +359,7 @@ pub fn find_leaf(
         let Some(offset) = offset_in_memory(&regime.pool, entry) else {
             return stop(FaultKind::WalkAbort, level);
         };
-        let descriptor = read_descriptor(memory, offset);
+        let descriptor = read_descriptor(memory, offset, regime.ee);
 
         // 6.4 and 6.5.
         match (descriptor & 3, level) {
@@ -471,7 +505,7 @@ fn refused(number: u8) -> Walk {
 pub fn walk_on(memory: &mut [u8], regime: &Regime, access: &Access) -> Walk {
     let (walk, after) = steps(memory, regime, access);
     if let Some((_, offset)) = walk.leaf {
-        write_descriptor(memory, offset, after);
+        write_descriptor(memory, offset, after, regime.ee);
     }
     walk
 }

@@ -154,7 +154,7 @@ impl History {
                 demand(number == wanted, "a store is refused wrongly");
                 if let (0, Some(regime)) = (number, regime) {
                     match offset_in_memory(&regime.pool, address) {
-                        Some(offset) => write_descriptor(&mut memory, offset, value),
+                        Some(at) => write_descriptor(&mut memory, at, value, regime.ee),
                         None => demand(false, "a store beside the pool is accepted"),
                     }
                 }
@@ -213,6 +213,24 @@ impl<'a> Past<'a> {
             Call::SetRegime(regime) if event.is_accepted() => Some(regime),
             _ => None,
         })
+    }
+
+    /// Whether EE was on when the descriptor at an offset of the memory was
+    /// last stored, if it was.
+    pub fn stored_with_ee(&self, offset: usize) -> Option<bool> {
+        let mut regime: Option<Regime> = None;
+        let mut ee = None;
+        for event in self.events.iter().filter(|event| event.is_accepted()) {
+            match event.call {
+                Call::SetRegime(next) => regime = Some(next),
+                Call::Store { address, .. } => {
+                    let into = |r: &Regime| offset_in_memory(&r.pool, address) == Some(offset);
+                    ee = regime.filter(into).map(|r| r.ee).or(ee);
+                }
+                _ => {}
+            }
+        }
+        ee
     }
 
     pub fn last_emptying(&self) -> Option<usize> {

@@ -4,6 +4,7 @@ mod calls;
 mod features;
 mod foreign;
 mod opening;
+mod orders;
 mod play;
 mod tally;
 mod world;

@@ -98,7 +98,7 @@ impl Session {
         };
         if let (true, Some((found, offset))) = (rememberable, walk.leaf) {
             let leaf = Leaf {
-                descriptor: read_descriptor(memory, offset),
+                descriptor: read_descriptor(memory, offset, regime.ee),
                 ..found
             };
             *place = Some(Held { page, leaf });
@@ -110,15 +110,16 @@ impl Session {
         }
     }
 
-    /// The refusal, if there is one. No place changes.
+    /// The refusal, if there is one. The bytes go in the order of the regime
+    /// that the session has. No place changes.
     pub fn store(&mut self, memory: &mut [u8], address: u64, value: u64) -> Option<u8> {
         let refusal = refusals::of_store(memory.len(), self.regime.as_ref(), address);
         let regime = match self.go_on(refusal) {
             Ok(regime) => regime,
             Err(number) => return Some(number),
         };
-        let offset = offset_in_memory(&regime.pool, address);
-        write_descriptor(memory, offset.expect("row 8 does not apply"), value);
+        let offset = offset_in_memory(&regime.pool, address).expect("row 8 does not apply");
+        write_descriptor(memory, offset, value, regime.ee);
         None
     }
 

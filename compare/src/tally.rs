@@ -6,6 +6,7 @@ use crate::cases::Case;
 use crate::counts::{report_families, Countable, Counts};
 use crate::decisions::{decided, succeeds, Decision};
 use crate::limits::{self, Limit, Octave, POOL_GRANULES};
+use crate::orders::{self, with_each_order, Ordered, Turn};
 use crate::reference::{
     bit, first_level, is_device, leaf_address, offset_in_memory, output_limit, read_descriptor,
     writable_clean, Access, Answer, FaultKind, Kind, Leaf, Pool, Regime, Walk, ADDRESS_FIELD,
@@ -58,6 +59,8 @@ pub enum Place {
     OddKind,
     /// HPD that decides, spelled with a byte other than 1.
     OddHpd,
+    /// Success with EE spelled with a byte other than 1, and without EE a fault.
+    OddEe,
     /// A leaf below tables with bit 63 alone of bits 63..59.
     Bit63,
     /// Bits 62..59 of a leaf, which would decide if they were a table's.
@@ -69,7 +72,7 @@ pub enum Place {
 }
 
 impl Place {
-    const ALL: [Place; 16] = [
+    const ALL: [Place; 17] = [
         Place::FirstOfPool,
         Place::LastOfPool,
         Place::BehindPool,
@@ -82,6 +85,7 @@ impl Place {
         Place::OddTruth,
         Place::OddKind,
         Place::OddHpd,
+        Place::OddEe,
         Place::Bit63,
         Place::OwnBits,
         Place::OwnBitsInTable,
@@ -145,6 +149,8 @@ pub enum Feature {
     Hpd(usize, Hpd),
     /// A leaf that would be writable-clean but for bit 62 of a table.
     CleanTaken(Kind, bool),
+    /// Under a regime with EE or without.
+    Ordered(bool, Ordered),
     Place(Place),
 }
 
@@ -181,12 +187,21 @@ impl Countable for Feature {
             F::AddUp(_) => "sums by how many tables they need",
             F::Hpd(..) => "HPD by range",
             F::CleanTaken(..) => "writes to clean leaves under bit 62",
+            F::Ordered(true, _) => "with EE",
+            F::Ordered(false, _) => "without EE",
             F::Place(_) => "places",
         }
     }
 
     fn possible() -> BTreeSet<Self> {
         possible()
+    }
+
+    fn least(&self) -> u64 {
+        match self {
+            F::Ordered(..) => orders::LEAST,
+            _ => 1,
+        }
     }
 }
 
@@ -204,6 +219,15 @@ pub fn level_name(el0: bool) -> &'static str {
         "EL0"
     } else {
         "EL1"
+    }
+}
+
+pub fn marks_name(accessed: bool, dirtied: bool) -> &'static str {
+    match (accessed, dirtied) {
+        (false, false) => "none",
+        (true, false) => "AF",
+        (false, true) => "dirty",
+        (true, true) => "AF+dirty",
     }
 }
 
@@ -227,13 +251,7 @@ impl fmt::Display for Feature {
             F::Success(first, level) => write!(out, "{first}>{level}"),
             F::Reads(tag, count) => write!(out, "{} {count}", tag_name(tag)),
             F::Marks(kind, accessed, dirtied) => {
-                let marks = match (accessed, dirtied) {
-                    (false, false) => "none",
-                    (true, false) => "AF",
-                    (false, true) => "dirty",
-                    (true, true) => "AF+dirty",
-                };
-                write!(out, "{kind:?} {marks}")
+                write!(out, "{kind:?} {}", marks_name(accessed, dirtied))
             }
             F::Rememberable(end, yes) => write!(out, "{end} {}", if yes { "yes" } else { "no" }),
             F::Asked(end, kind, el0) => write!(out, "{end} {} {kind:?}", level_name(el0)),
@@ -255,6 +273,7 @@ impl fmt::Display for Feature {
             F::AddUp(count) => write!(out, "{count}"),
             F::Hpd(range, which) => write!(out, "{range} {which:?}"),
             F::CleanTaken(kind, el0) => write!(out, "{} {kind:?}", level_name(el0)),
+            F::Ordered(_, what) => write!(out, "{what}"),
             F::Place(place) => write!(out, "{place:?}"),
         }
     }
@@ -362,6 +381,7 @@ fn possible() -> BTreeSet<Feature> {
     all.extend([false, true].map(F::NonGlobal));
     lengths(&mut all);
     tables(&mut all);
+    all.extend(with_each_order(Ordered::all()).map(|(ee, what)| F::Ordered(ee, what)));
     all.extend(Place::ALL.map(F::Place));
     all
 }
@@ -411,7 +431,7 @@ impl Tally {
     /// took through the memory as it was before.
     pub fn note(&mut self, case: &Case, before: &[u8], walk: &Walk, answer: &CAnswer) {
         let (regime, access) = (case.regime, case.access);
-        *self.families.entry(case.family).or_default() += 1;
+        self.note_case(case, before, walk);
         self.meet(F::Tag(answer.tag));
         if answer.tag == REFUSED {
             return self.note_refusal(before.len(), regime, access, answer.refusal);
@@ -458,6 +478,18 @@ impl Tally {
                     self.meet(F::Fault(kind, first_level(t), answer.level));
                 }
                 self.note_fault(regime, range, before, walk, kind);
+            }
+        }
+    }
+
+    /// Its family, and what it meets with EE or without.
+    fn note_case(&mut self, case: &Case, before: &[u8], walk: &Walk) {
+        *self.families.entry(case.family).or_default() += 1;
+        let odd = case.regime.ee && case.spelling.truth != 1;
+        for what in Ordered::of(before, case.regime, case.access, walk) {
+            self.meet(F::Ordered(case.regime.ee, what));
+            if odd && what == Ordered::Turn(Turn::ThisAlone) {
+                self.meet(F::Place(Place::OddEe));
             }
         }
     }
@@ -547,7 +579,7 @@ impl Tally {
     fn note_tables(&mut self, case: &Case, before: &[u8], walk: &Walk, leaf: &Leaf) {
         let (regime, access) = (case.regime, case.access);
         let range = usize::from(bit(access.address, 55));
-        let tables = tables_of(before, &regime.pool, walk);
+        let tables = tables_of(before, regime, walk);
         let all = tables.iter().fold(0, |sum, table| sum | table);
         let decides = |taken| {
             let without = succeeds(regime, access, leaf, taken);
@@ -631,18 +663,20 @@ impl Tally {
                     self.meet(F::At(held, code));
                 }
             }
-            FaultKind::WalkAbort => self.note_abort(&regime.pool, before, walk),
+            FaultKind::WalkAbort => self.note_abort(regime, before, walk),
             _ => {}
         }
     }
 
     /// An abort: does the memory around the pool look valid there?
-    fn note_abort(&mut self, pool: &Pool, before: &[u8], walk: &Walk) {
+    fn note_abort(&mut self, regime: &Regime, before: &[u8], walk: &Walk) {
         let Some(&entry) = walk.visited.last() else {
             return;
         };
-        let looks_valid =
-            |offset: usize| offset + 8 <= before.len() && read_descriptor(before, offset) & 1 == 1;
+        let pool = &regime.pool;
+        let looks_valid = |offset: usize| {
+            offset + 8 <= before.len() && read_descriptor(before, offset, regime.ee) & 1 == 1
+        };
         let behind = pool.start + pool.length;
         if entry == pool.address + pool.length as u64 && looks_valid(behind) {
             self.meet(F::Place(Place::BehindPool));
@@ -674,11 +708,11 @@ impl Tally {
 }
 
 /// The table descriptors on the way to a leaf.
-fn tables_of(before: &[u8], pool: &Pool, walk: &Walk) -> Vec<u64> {
+fn tables_of(before: &[u8], regime: &Regime, walk: &Walk) -> Vec<u64> {
     let visited = walk.visited.iter().take(walk.visited.len() - 1);
-    let offsets = visited.filter_map(|&entry| offset_in_memory(pool, entry));
+    let offsets = visited.filter_map(|&entry| offset_in_memory(&regime.pool, entry));
     offsets
-        .map(|offset| read_descriptor(before, offset))
+        .map(|offset| read_descriptor(before, offset, regime.ee))
         .collect()
 }
 
@@ -703,7 +737,7 @@ fn address_beyond(regime: &Regime, range: usize, before: &[u8], walk: &Walk) -> 
     let Some(offset) = offset else {
         return (Held::Root, regime.ranges[range].root);
     };
-    let descriptor = read_descriptor(before, offset);
+    let descriptor = read_descriptor(before, offset, regime.ee);
     let first = first_level(regime.ranges[range].t);
     let level = first + walk.visited.len() as u8 - 1;
     if level < 3 && descriptor & 3 == 3 {

@@ -2,6 +2,7 @@
 //! check that the cases meet all they should.
 
 mod limits;
+mod orders;
 mod refusals;
 mod rule3;
 mod session;
@@ -9,18 +10,24 @@ mod spare;
 mod tables;
 mod vectors;
 
-use crate::boundary::plain_answer;
+use crate::boundary::{plain_answer, CAnswer};
 use crate::cases::{run_all, Case, Runner};
-use crate::reference::{
-    self, read_descriptor, walk, write_descriptor, Access, Answer, Kind, Pool, Range, Regime,
-    Success, Walk,
-};
+use crate::reference::{self, walk, Access, Answer, Kind, Pool, Range, Regime, Success, Walk};
 use crate::tally::Tally;
-use crate::{bare, promises};
+use crate::{bare, promises, reversed};
 
 const POOL: u64 = 0x4000_0000;
 const LEAF_OFFSET: usize = 0x3018;
 const LEAF: u64 = 0x0008_0000_8000_53C3;
+
+/// Of tables that stand lowest byte first, as those of the worked cases do.
+fn read_descriptor(memory: &[u8], offset: usize) -> u64 {
+    reference::read_descriptor(memory, offset, false)
+}
+
+fn write_descriptor(memory: &mut [u8], offset: usize, descriptor: u64) {
+    reference::write_descriptor(memory, offset, descriptor, false);
+}
 
 /// The memory and regime that each case starts from.
 fn start() -> (Vec<u8>, Regime) {
@@ -46,6 +53,7 @@ fn start() -> (Vec<u8>, Regime) {
         ha: true,
         hd: true,
         wxn: false,
+        ee: false,
         attributes: [0xFF; 8],
     };
     (memory, regime)
@@ -262,9 +270,25 @@ fn p12_pool_length() {
 struct Survey {
     tally: Tally,
     count: u64,
-    /// The memory before a case; then also for the walk without the tables'
-    /// bits.
+    /// How many were walked in the other byte order too.
+    reversed: u64,
+    /// The memory before a case; then also for the walks without the tables'
+    /// bits and in the other order.
     before: Vec<u8>,
+}
+
+impl Survey {
+    fn walk_reversed(&mut self, case: &Case, left: &[u8], answer: &CAnswer) {
+        if !reversed::is_due(self.count) {
+            return;
+        }
+        let again = |lent: &mut [u8], other: &Regime| {
+            plain_answer(&reference::walk(lent, other, case.access).answer)
+        };
+        let walked = reversed::check(case.regime, answer, left, &mut self.before, again)
+            .unwrap_or_else(|broken| panic!("case {}: {broken}: {answer:?}", self.count));
+        self.reversed += u64::from(walked);
+    }
 }
 
 impl Runner for Survey {
@@ -292,6 +316,7 @@ impl Runner for Survey {
         let again = |lent: &mut [u8]| plain_answer(&reference::walk(lent, regime, access).answer);
         bare::check(regime, access, &walk, &answer, &mut self.before, again)
             .unwrap_or_else(|broken| panic!("case {}: {broken}: {answer:?}", self.count));
+        self.walk_reversed(case, memory, &answer);
     }
 }
 
@@ -300,10 +325,16 @@ fn cases_meet_all_that_can_occur() {
     let mut survey = Survey {
         tally: Tally::default(),
         count: 0,
+        reversed: 0,
         before: Vec::new(),
     };
     run_all(1, &mut survey);
     assert_eq!(survey.tally.missing(), []);
     assert_eq!(survey.tally.strangers(), []);
     assert!(survey.count >= 200_000, "{} cases", survey.count);
+    let reversed = survey.reversed;
+    assert!(
+        reversed >= survey.count / 6,
+        "{reversed} the other way round"
+    );
 }

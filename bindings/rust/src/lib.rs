@@ -72,8 +72,7 @@
 //! - Alignment checking of Normal memory (SCTLR_EL1.A)
 //! - Stage 1 switched off (SCTLR_EL1.M 0)
 //! - 128-bit descriptors (FEAT_D128), VMSAv8-32
-//! - Until they are added: ASIDs, big-endian tables (SCTLR_EL1.EE), granules of
-//!   16 KiB and 64 KiB, stage 2
+//! - Until they are added: ASIDs, granules of 16 KiB and 64 KiB, stage 2
 //!
 //! Most of these are settings that the library is not told of: it walks the
 //! tables all the same, and its answer need not be the hardware's.
@@ -92,9 +91,10 @@
 //! - It stops the vCPUs for the call.
 //! - It lends a copy of the pool. A success changes at most one descriptor of
 //!   it, a fault or a refusal none. The monitor makes that change in the
-//!   guest's memory itself, with a compare-and-swap. Where that fails, the
-//!   session holds a leaf that the guest's tables do not have: empty it, and
-//!   ask again.
+//!   guest's memory itself, with a compare-and-swap of the old 8 bytes with
+//!   the new, as they stand, whatever [`Regime::ee`](Regime::ee()) is. Where
+//!   that fails, the session holds a leaf that the guest's tables do not have:
+//!   empty it, and ask again.
 //!
 //! ```
 //! use std::sync::atomic::{AtomicU64, Ordering::SeqCst};
@@ -167,7 +167,7 @@ pub const MEMORY_LIMIT: usize = 16_777_216;
 pub const POOL_LIMIT: usize = 1_048_576;
 
 /// The version of the C interface that this crate speaks.
-pub const VERSION: u32 = 7;
+pub const VERSION: u32 = 8;
 
 /// The version of the library that is linked in; to be [`VERSION`].
 pub fn version() -> u32 {
@@ -180,8 +180,9 @@ pub fn version() -> u32 {
 /// write or update of a writable-clean page (DBM and AP\[2\] both 1, and no
 /// bit 62 above it) also clears AP\[2\]. A probe changes nothing, and so does
 /// whatever stops the walk. The tables on the way take permissions away from
-/// the leaf, unless [`Range::hpd`](Range::hpd()) is on. [`Refusal`] has the
-/// order of the checks.
+/// the leaf, unless [`Range::hpd`](Range::hpd()) is on. Descriptors are read
+/// and marked in the byte order of [`Regime::ee`](Regime::ee()). [`Refusal`]
+/// has the order of the checks.
 ///
 /// ```
 /// use vmsa::{walk, Access, Refusal, Regime, Stop, VirtAddr};

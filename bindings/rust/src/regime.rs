@@ -173,7 +173,10 @@ impl OutputSize {
 
 /// A translation regime: stage 1 of EL1&0.
 ///
-/// Each setting takes the regime and hands it back with one thing changed.
+/// Each setting takes the regime and hands it back with one thing changed. A
+/// session keeps the regime that it was given: when the guest changes a
+/// register that a setting stands for, [set the
+/// regime](crate::Session::set_regime) again.
 ///
 /// ```
 /// use vmsa::{OutputSize, PhysAddr, Pool, Range, Regime};
@@ -209,13 +212,15 @@ pub struct Regime {
     pub hd: bool,
     /// Whether writable pages are execute-never.
     pub wxn: bool,
+    /// Whether descriptors are big-endian; see [`ee`](Self::ee()).
+    pub ee: bool,
     /// The bytes of MAIR_EL1, the lowest first.
     pub attributes: [u8; 8],
 }
 
 impl Regime {
     /// No pool yet, both ranges disabled and HPD off, 48 bits of output, no
-    /// updates, and Device memory only.
+    /// updates, little-endian descriptors, and Device memory only.
     pub const fn new() -> Self {
         Self {
             pool: Pool::new(0, 0, PhysAddr(0)),
@@ -225,6 +230,7 @@ impl Regime {
             ha: false,
             hd: false,
             wxn: false,
+            ee: false,
             attributes: [0; 8],
         }
     }
@@ -282,6 +288,47 @@ impl Regime {
     /// Switches execute-never for writable pages.
     pub const fn wxn(mut self, wxn: bool) -> Self {
         self.wxn = wxn;
+        self
+    }
+
+    /// Whether the 8 bytes of each descriptor are big-endian (SCTLR_EL1.EE);
+    /// they are little-endian otherwise.
+    ///
+    /// It holds for the tables of both ranges: for what a walk reads, for the
+    /// marks that it makes, and for the bytes that a
+    /// [`store`](crate::Session::store) writes. It has no say in a device's
+    /// data, nor in the leaves that a session holds: they are numbers.
+    ///
+    /// ```
+    /// use vmsa::{walk, Access, FaultKind, PhysAddr, Pool, Range, Regime, Stop, VirtAddr};
+    ///
+    /// // A big-endian table with a writable-clean block of 2 MiB.
+    /// let mut memory = vec![0; 0x1000];
+    /// memory[..8].copy_from_slice(&0x0008_0000_8020_0381_u64.to_be_bytes());
+    ///
+    /// let root = PhysAddr(0x4000_0000);
+    /// let sctlr: u64 = 1 << 25;
+    /// let regime = Regime::new()
+    ///     .pool(Pool::new(0, 0x1000, root))
+    ///     .range0(Range::new(root, 39))
+    ///     .ha(true)
+    ///     .hd(true)
+    ///     .ee(sctlr >> 25 & 1 == 1)
+    ///     .attributes([0xff; 8]);
+    ///
+    /// let write = Access::write(VirtAddr(0x1_2340), 8);
+    /// let found = walk(&mut memory, &regime, &write)?;
+    /// assert_eq!(found.output, PhysAddr(0x8021_2340));
+    /// assert!(found.accessed && found.dirtied);
+    /// assert_eq!(memory[..8], [0x00, 0x08, 0x00, 0x00, 0x80, 0x20, 0x07, 0x01]);
+    ///
+    /// // Read as little-endian, the same bytes are no valid descriptor.
+    /// let stop = walk(&mut memory, &regime.ee(false), &write).unwrap_err();
+    /// assert_eq!(stop.fault().unwrap().kind, FaultKind::Translation);
+    /// # Ok::<(), Stop>(())
+    /// ```
+    pub const fn ee(mut self, ee: bool) -> Self {
+        self.ee = ee;
         self
     }
 
@@ -359,7 +406,8 @@ impl From<&Regime> for ffi::Regime {
             wxn: regime.wxn.into(),
             hpd0: regime.range0.hpd.into(),
             hpd1: regime.range1.hpd.into(),
-            spare: [0; 6],
+            ee: regime.ee.into(),
+            spare: [0; 5],
         }
     }
 }

@@ -60,7 +60,8 @@ impl Session {
         }
     }
 
-    /// Sets the regime and empties every entry.
+    /// Sets the regime and empties every entry. To be called again when the
+    /// guest changes what the regime says, [EE](Regime::ee()) too.
     ///
     /// # Errors
     ///
@@ -85,6 +86,27 @@ impl Session {
 
     /// Stores a descriptor at a physical address in the pool. No entry
     /// changes.
+    ///
+    /// The descriptor is a number. Its 8 bytes are written in the byte order of
+    /// the session's regime:
+    ///
+    /// ```
+    /// use vmsa::{PhysAddr, Pool, Refusal, Regime, Session};
+    ///
+    /// let root = PhysAddr(0x4000_0000);
+    /// let regime = Regime::new().pool(Pool::new(0, 0x1000, root));
+    /// let mut memory = vec![0; 0x1000];
+    /// let mut session = Session::new();
+    ///
+    /// session.set_regime(&memory, &regime)?;
+    /// session.store(&mut memory, root, 0x4000_1003)?;
+    /// assert_eq!(memory[..8], 0x4000_1003_u64.to_le_bytes());
+    ///
+    /// session.set_regime(&memory, &regime.ee(true))?;
+    /// session.store(&mut memory, root, 0x4000_1003)?;
+    /// assert_eq!(memory[..8], 0x4000_1003_u64.to_be_bytes());
+    /// # Ok::<(), Refusal>(())
+    /// ```
     ///
     /// # Errors
     ///

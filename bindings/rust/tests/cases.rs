@@ -1,15 +1,15 @@
 //! The worked cases (`docs/RULES.md`, 12): P1 to P12, and those of the tables'
-//! bits.
+//! bits, each in both byte orders; and those of EE.
 
 mod tables;
 
 use tables::{
-    get, memory, put, read, regime, under, write, ADDRESS, CLEAN, EXTERNAL_ABORT, LEAF, NO_EL0,
-    NO_EL0_FETCH, NO_EL1_FETCH, NO_WRITE, POOL,
+    get, memory, put, read, regime, turned, under, walk, write, ADDRESS, CLEAN, EXTERNAL_ABORT,
+    LEAF, NO_EL0, NO_EL0_FETCH, NO_EL1_FETCH, NO_WRITE, POOL, TABLES,
 };
 use vmsa::{
-    walk, Access, Fault, FaultKind, OutputSize, PhysAddr, Pool, Range, Refusal, Regime,
-    Shareability, Stop, Translation, VirtAddr,
+    Access, Fault, FaultKind, OutputSize, PhysAddr, Pool, Range, Refusal, Regime, Shareability,
+    Stop, Translation, VirtAddr,
 };
 
 /// The fault that a walk gives; it leaves the memory alone.
@@ -278,4 +278,51 @@ fn bit_63_and_a_leafs_own_have_no_say() {
     };
     assert_eq!(walk(&mut memory, &regime(), &write()), Ok(dirtied));
     assert_eq!(get(&memory, LEAF), 0x0008_0000_8000_5743 | own);
+}
+
+#[test]
+fn p2_big_endian() {
+    let mut memory = turned(&memory());
+    assert_eq!(
+        memory[LEAF..LEAF + 8],
+        [0x00, 0x08, 0x00, 0x00, 0x80, 0x00, 0x53, 0xc3]
+    );
+    let mut expected = memory.clone();
+    expected[LEAF..LEAF + 8].copy_from_slice(&[0x00, 0x08, 0x00, 0x00, 0x80, 0x00, 0x57, 0x43]);
+    let dirtied = Translation {
+        dirtied: true,
+        ..found()
+    };
+    let regime = regime().ee(true);
+    assert_eq!(vmsa::walk(&mut memory, &regime, &write()), Ok(dirtied));
+    assert!(memory == expected);
+}
+
+#[test]
+fn a_descriptor_in_the_other_order() {
+    // Read so, bit 0 is clear.
+    let offsets = TABLES.map(|(offset, _)| offset);
+    for (level, offset) in offsets.into_iter().chain([LEAF]).enumerate() {
+        let expected = Fault {
+            kind: FaultKind::Translation,
+            level: level as u8,
+            code: 4 + level as u16,
+            cacheable: false,
+            reads: 1 + level as u8,
+        };
+        let mut memory = memory();
+        memory[offset..offset + 8].reverse();
+        assert_eq!(fault(&memory, &regime(), &write()), expected);
+    }
+
+    // All of them: the root's entry ends the walk.
+    let first = Fault {
+        kind: FaultKind::Translation,
+        level: 0,
+        code: 4,
+        cacheable: false,
+        reads: 1,
+    };
+    assert_eq!(fault(&memory(), &regime().ee(true), &read()), first);
+    assert_eq!(fault(&turned(&memory()), &regime(), &read()), first);
 }

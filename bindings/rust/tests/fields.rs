@@ -1,14 +1,14 @@
 //! Every field of a regime, an access and an answer, changed alone, shows in
-//! the answer it should show in.
+//! the answer it should show in, in both byte orders.
 
 mod tables;
 
 use tables::{
-    get, memory, put, read, regime, under, write, ADDRESS, CLEAN, LEAF, NO_EL0, NO_EL0_FETCH,
-    NO_EL1_FETCH, NO_WRITE, POOL, TABLES,
+    get, memory, put, put_in, read, regime, turned, under, walk, write, ADDRESS, CLEAN, LEAF,
+    NO_EL0, NO_EL0_FETCH, NO_EL1_FETCH, NO_WRITE, POOL, TABLES,
 };
 use vmsa::{
-    walk, Access, AccessKind, Answer, Fault, FaultKind, OutputSize, PhysAddr, Pool, Range, Refusal,
+    Access, AccessKind, Answer, Fault, FaultKind, OutputSize, PhysAddr, Pool, Range, Refusal,
     Regime, Shareability, Stop, Translation, VirtAddr,
 };
 
@@ -262,6 +262,50 @@ fn hpd() {
             let answer = ask(&memory, &regime, &Access::write(address, 4).el0());
             assert_eq!(answer.err().map(stop), (!hpd).then_some(15));
         }
+    }
+}
+
+#[test]
+fn ee() {
+    // One flag for the tables of both ranges.
+    let (little, big) = (roots(), turned(&roots()));
+    let range = Range::new(PhysAddr(POOL), 16);
+    let regime = regime().range0(range).range1(range);
+    assert!(!regime.ee && !Regime::new().ee);
+    for address in [ADDRESS, UPPER] {
+        let asked = |memory: &[u8], ee| {
+            let read = Access::read(address, 4).el0();
+            vmsa::walk(&mut memory.to_vec(), &regime.ee(ee), &read)
+        };
+        assert_eq!(output(asked(&little, false)), 0x8000_5abc);
+        assert_eq!(output(asked(&big, true)), 0x8000_5abc);
+        assert_eq!(code(asked(&little, true)), 4);
+        assert_eq!(code(asked(&big, false)), 4);
+    }
+}
+
+#[test]
+fn a_block_valid_in_both_orders() {
+    // The same bytes are two leaves, each with its own marks.
+    let little: u64 = 0xc10f_4000_8020_0b81;
+    let big = 0x810b_2080_0040_0fc1;
+    assert_eq!(little.swap_bytes(), big);
+    let range = Range::new(PhysAddr(POOL), 39);
+    let write = Access::write(VirtAddr(0x1_2340), 8);
+    for (ee, leaf, frame, marks) in [
+        (false, little, 0x4000_8020_0000, AF | AP2),
+        (true, big, 0x2080_0040_0000, AP2),
+    ] {
+        let mut memory = memory();
+        put_in(ee, &mut memory, 0, leaf);
+        let mut expected = memory.clone();
+        put_in(ee, &mut expected, 0, leaf ^ marks);
+
+        let regime = regime().range0(range).ee(ee);
+        let found = vmsa::walk(&mut memory, &regime, &write).unwrap();
+        assert_eq!(found.output.0, frame + write.address.0);
+        assert_eq!(found.accessed, marks & AF != 0);
+        assert!(found.dirtied && memory == expected);
     }
 }
 

@@ -1,11 +1,12 @@
 //! The largest pool in the largest memory: walked and marked up to its last
-//! descriptor, and no further; one step more of either is refused.
+//! descriptor, and no further, in both byte orders; one step more of either is
+//! refused.
 
 mod tables;
 
-use tables::{get, put, regime, CLEAN, EXTERNAL_ABORT, POOL};
+use tables::{get, put, regime, walk, Both, CLEAN, EXTERNAL_ABORT, POOL};
 use vmsa::{
-    walk, Access, Answer, PhysAddr, Pool, Refusal, Regime, Session, Stop, VirtAddr, MEMORY_LIMIT,
+    Access, Answer, PhysAddr, Pool, Refusal, Regime, Session, Stop, VirtAddr, MEMORY_LIMIT,
     POOL_LIMIT,
 };
 
@@ -84,7 +85,7 @@ fn largest_pool_in_a_session() {
         let (mut room, mut expected) = (room_of(start), room_of(start));
         let last = start + POOL_LIMIT - 8;
         let lent = &mut room[..MEMORY_LIMIT];
-        let mut session = Session::new();
+        let mut session = Both::new();
         session.set_regime(lent, &of(start, POOL_LIMIT)).unwrap();
 
         found(session.access(lent, &read(LAST)), true, false);

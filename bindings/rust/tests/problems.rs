@@ -449,6 +449,7 @@ fn change(question: &mut Question, random: &mut Random) {
             regime.range1.disabled = random.below(2) == 0;
             regime.range0.hpd = random.below(2) == 0;
             regime.range1.hpd = random.below(2) == 0;
+            regime.ee = random.below(2) == 0;
         }
     }
 }

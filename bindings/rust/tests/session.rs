@@ -1,15 +1,15 @@
-//! Sessions: a script with every call, and long random lists held against the
-//! plain walk.
+//! Sessions: a script with every call, in both byte orders, what a turned EE
+//! leaves, and long random lists held against the plain walk.
 
 mod tables;
 
 use tables::{
-    get, memory, put, read, regime, write, Random, ADDRESS, CLEAN, LEAF, LENGTH, NO_EL0, NO_WRITE,
-    POOL, TABLES,
+    get, memory, put, put_in, read, regime, turned, write, Both, Random, ADDRESS, CLEAN, LEAF,
+    LENGTH, NO_EL0, NO_WRITE, POOL, TABLES,
 };
 use vmsa::{
-    walk, Access, AccessKind, Answer, FaultKind, PhysAddr, Pool, Range, Refusal, Session, Stop,
-    VirtAddr,
+    walk, Access, AccessKind, Answer, FaultKind, PhysAddr, Pool, Range, Refusal, Regime, Session,
+    Stop, VirtAddr,
 };
 
 const AP2: u64 = 1 << 7;
@@ -40,8 +40,8 @@ fn reads(answer: Answer) -> u8 {
 #[test]
 fn script() {
     let mut memory = memory();
-    let mut session = Session::new();
-    assert_eq!(session, Session::default());
+    let mut session = Both::new();
+    assert_eq!(session.0, Session::default());
     let leaf = PhysAddr(POOL + LEAF as u64);
 
     // No regime yet, and a refused one leaves it so.
@@ -54,7 +54,7 @@ fn script() {
     session.invalidate_all();
     let bad = regime().range0(Range::new(PhysAddr(POOL), 15));
     assert_eq!(session.set_regime(&memory, &bad), Err(Refusal::Sizes));
-    assert_eq!(session, Session::new());
+    assert_eq!(session, Both::new());
     assert!(memory == tables::memory());
 
     // A read fills the entry; a write of the writable-clean page walks again.
@@ -141,7 +141,8 @@ fn script() {
     assert_eq!(reads(session.access(&mut memory, &read())), 0);
     session.set_regime(&memory, &regime()).unwrap();
     assert_eq!(reads(session.access(&mut memory, &read())), 4);
-    assert_eq!(format!("{session:?}"), "Session { set: true, held: 1, .. }");
+    let debug = format!("{:?}", session.0);
+    assert_eq!(debug, "Session { set: true, held: 1, .. }");
 }
 
 /// The code of the fault, and its reads.
@@ -154,7 +155,7 @@ fn denied(answer: Answer) -> (u16, u8) {
 fn a_held_sum() {
     // An entry holds what the tables take away as the walk met them.
     let mut memory = memory();
-    let mut session = Session::new();
+    let mut session = Both::new();
     session.set_regime(&memory, &regime()).unwrap();
     let (offset, table) = TABLES[2];
     let third = PhysAddr(POOL + offset as u64);
@@ -182,6 +183,38 @@ fn a_held_sum() {
 }
 
 #[test]
+fn ee_turned() {
+    // A new regime with EE turned empties the entries, and the tables as they
+    // stand lead nowhere.
+    let mut memory = memory();
+    let mut session = Session::new();
+    session.set_regime(&memory, &regime()).unwrap();
+    assert_eq!(reads(session.access(&mut memory, &read())), 4);
+    let bad = regime().ee(true).ha(false);
+    let refused = session.set_regime(&memory, &bad);
+    assert_eq!(refused, Err(Refusal::DirtyState));
+    assert_eq!(reads(session.access(&mut memory, &read())), 0);
+    session.set_regime(&memory, &regime().ee(true)).unwrap();
+    assert_eq!(denied(session.access(&mut memory, &read())), (4, 1));
+
+    // The guest stores them again in the new order.
+    for (offset, descriptor) in TABLES.into_iter().chain([(LEAF, CLEAN)]) {
+        let address = PhysAddr(POOL + offset as u64);
+        session.store(&mut memory, address, descriptor).unwrap();
+    }
+    assert!(memory == turned(&tables::memory()));
+    assert_eq!(reads(session.access(&mut memory, &read())), 4);
+    assert_eq!(reads(session.access(&mut memory, &read())), 0);
+    assert!(session.access(&mut memory, &write()).unwrap().dirtied);
+    assert_eq!(
+        memory[LEAF..LEAF + 8],
+        [0x00, 0x08, 0x00, 0x00, 0x80, 0x00, 0x57, 0x43]
+    );
+    session.set_regime(&memory, &regime()).unwrap();
+    assert_eq!(denied(session.access(&mut memory, &write())), (4, 1));
+}
+
+#[test]
 fn every_entry() {
     // 64 pages side by side fill 64 entries; each stays until it is dropped.
     let mut memory = memory();
@@ -192,7 +225,7 @@ fn every_entry() {
             CLEAN + ((page as u64) << 12),
         );
     }
-    let mut session = Session::new();
+    let mut session = Both::new();
     session.set_regime(&memory, &regime()).unwrap();
     let access = |page: u64| Access::write(VirtAddr(0x40_0008 + (page << 12)), 8).el0();
     for (expected, dirtied) in [(4, true), (0, false)] {
@@ -261,39 +294,53 @@ fn updates(random: &mut Random) -> (bool, bool) {
     (ha, hd)
 }
 
+/// The byte order of a list's tables; one in 16 is the other.
+fn order(random: &mut Random, ee: bool) -> bool {
+    ee != (random.below(16) == 0)
+}
+
+/// A pool with a page before it and one behind it.
+fn any_memory(random: &mut Random, ee: bool) -> Vec<u8> {
+    let mut memory = vec![0; 0x12000];
+    for slot in 0..32 {
+        for page in 0..18 {
+            let (ee, descriptor) = (order(random, ee), descriptor(random));
+            put_in(ee, &mut memory, 0x1000 * page + 8 * slot, descriptor);
+        }
+    }
+    memory
+}
+
+fn any_regime(random: &mut Random, ee: bool) -> Regime {
+    let tsz = random.pick(&[16, 20, 25, 34, 36, 39, 15]);
+    let range = Range::new(PhysAddr(POOL + 0x1000 * random.below(16)), tsz);
+    let (ha, hd) = updates(random);
+    regime()
+        .pool(Pool::new(0x1000, 0x10000, PhysAddr(POOL)))
+        .range0(range.hpd(random.below(4) == 0))
+        .range1(range.hpd(random.below(4) == 0))
+        .ha(ha)
+        .hd(hd)
+        .wxn(random.below(4) == 0)
+        .ee(order(random, ee))
+        .attribute(random.below(8) as usize, 0x04)
+}
+
 #[test]
 fn as_the_plain_walk() {
     let mut random = Random(0x9e37_79b9_7f4a_7c15);
-    let (mut held, mut dirtied, mut faults) = (0, 0, 0);
+    let (mut held, mut faults) = (0, 0);
+    let mut dirtied = [0; 2];
     for list in 0..300 {
-        // The pool has a page before it and one behind it.
-        let mut memory = vec![0; 0x12000];
-        for slot in 0..32 {
-            for page in 0..18 {
-                put(
-                    &mut memory,
-                    0x1000 * page + 8 * slot,
-                    descriptor(&mut random),
-                );
-            }
-        }
+        let ee = list % 2 == 1;
+        let mut memory = any_memory(&mut random, ee);
         let mut session = Session::new();
         let mut last = None;
         for _ in 0..200 {
             let before = memory.clone();
             match random.below(24) {
                 0 => {
-                    let tsz = random.pick(&[16, 20, 25, 34, 36, 39, 15]);
-                    let range = Range::new(PhysAddr(POOL + 0x1000 * random.below(16)), tsz);
-                    let (ha, hd) = updates(&mut random);
-                    let next = regime()
-                        .pool(Pool::new(0x1000, 0x10000, PhysAddr(POOL)))
-                        .range0(range.hpd(random.below(4) == 0))
-                        .range1(range.hpd(random.below(4) == 0))
-                        .ha(ha)
-                        .hd(hd)
-                        .wxn(random.below(4) == 0)
-                        .attribute(random.below(8) as usize, 0x04);
+                    let next = any_regime(&mut random, ee);
                     if session.set_regime(&memory, &next).is_ok() {
                         last = Some(next);
                     }
@@ -305,7 +352,8 @@ fn as_the_plain_walk() {
                     let answer = session.store(&mut memory, PhysAddr(POOL + offset), value);
                     let mut expected = before;
                     if answer.is_ok() {
-                        put(&mut expected, 0x1000 + offset as usize, value);
+                        let ee = last.is_some_and(|regime| regime.ee);
+                        put_in(ee, &mut expected, 0x1000 + offset as usize, value);
                         session.invalidate_all();
                     }
                     assert!(memory == expected);
@@ -348,7 +396,7 @@ fn as_the_plain_walk() {
                     match answer {
                         Ok(found) => {
                             held += u32::from(found.reads == 0);
-                            dirtied += u32::from(found.dirtied);
+                            dirtied[usize::from(regime.ee)] += u32::from(found.dirtied);
                         }
                         Err(_) => faults += 1,
                     }
@@ -358,7 +406,7 @@ fn as_the_plain_walk() {
     }
     // The lists are worth something.
     assert!(
-        held > 1000 && dirtied > 100 && faults > 1000,
-        "{held} held, {dirtied} dirtied, {faults} faults"
+        held > 1000 && dirtied.iter().all(|&count| count > 100) && faults > 1000,
+        "{held} held, {dirtied:?} dirtied, {faults} faults"
     );
 }

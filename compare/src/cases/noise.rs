@@ -1,39 +1,22 @@
 //! Pools without a plan.
 
-use super::scene::{draw_access, draw_granules, Placement, HD_ALONE};
+use super::scene::{draw_access, draw_granules, Placement, Scene, HD_ALONE, WHOLE};
 use super::Maker;
 use crate::promises::Expect;
+use crate::random::Random;
 
 const FAMILY: &str = "noise";
 const SCENES: u32 = 12_000;
 
 pub fn run(maker: &mut Maker) {
     for _ in 0..SCENES {
-        let random = &mut maker.random;
-        let scene = &mut maker.scene;
-        let code = random.below(6) as u8;
-        let placement = random.pick(&[
-            Placement::Zero,
-            Placement::Inside,
-            Placement::EndsAtLimit,
-            Placement::Straddles,
-            Placement::StartsAtLimit,
-            Placement::Top,
-        ]);
-        // Nothing lies beyond 48 bits.
-        let placement = match placement {
-            Placement::Straddles | Placement::StartsAtLimit if code == 5 => Placement::Top,
-            other => other,
-        };
-        let granules = draw_granules(random, 2);
-        scene.draw(random, code, placement, granules);
-        match random.below(8) {
-            0 | 1 => scene.fill_random(random),
-            2 if random.once_in(4) => scene.memory.fill(0),
-            2 => scene.memory.fill(0xFF),
-            _ => {}
-        }
+        draw(&mut maker.random, &mut maker.scene);
         for _ in 0..4 {
+            ask(maker, Expect::Walked);
+        }
+        // The same tables in the other byte order.
+        if maker.random.once_in(4) {
+            maker.scene.regime.ee ^= true;
             ask(maker, Expect::Walked);
         }
         // The same tables under a regime that is refused.
@@ -42,6 +25,31 @@ pub fn run(maker: &mut Maker) {
             (regime.ha, regime.hd) = HD_ALONE;
             ask(maker, Expect::Refused(13));
         }
+    }
+}
+
+fn draw(random: &mut Random, scene: &mut Scene) {
+    let code = random.below(6) as u8;
+    let placement = random.pick(&[
+        Placement::Zero,
+        Placement::Inside,
+        Placement::EndsAtLimit,
+        Placement::Straddles,
+        Placement::StartsAtLimit,
+        Placement::Top,
+    ]);
+    // Nothing lies beyond 48 bits.
+    let placement = match placement {
+        Placement::Straddles | Placement::StartsAtLimit if code == WHOLE => Placement::Top,
+        other => other,
+    };
+    let granules = draw_granules(random, 2);
+    scene.draw(random, code, placement, granules);
+    match random.below(8) {
+        0 | 1 => scene.fill_random(random),
+        2 if random.once_in(4) => scene.memory.fill(0),
+        2 => scene.memory.fill(0xFF),
+        _ => {}
     }
 }
 

@@ -1,16 +1,19 @@
 //! A memory with a pool in it, a regime that speaks of the pool, and paths
-//! of descriptors laid through it.
+//! of descriptors laid through it, in the byte order that the regime has then.
 
 use crate::random::Random;
 use crate::reference::{
-    first_level, index_bits, lowest_index_bit, output_limit, Access, Kind, Pool, Range, Regime,
-    ADDRESS_FIELD, AF, AP1, AP2, DBM, GRANULE, PHYSICAL_LIMIT, TAKING, TAKING_FIELD,
+    descriptor_bytes, first_level, index_bits, lowest_index_bit, output_limit, read_descriptor,
+    write_descriptor, Access, Kind, Pool, Range, Regime, ADDRESS_FIELD, AF, AP1, AP2, DBM, GRANULE,
+    PHYSICAL_LIMIT, TAKING, TAKING_FIELD,
 };
 
 /// Entries in a table below the first one.
 pub const ENTRIES: u64 = GRANULE / 8;
 /// The most granules of a pool where its length does not matter.
 pub const SHORT: u64 = 16;
+/// The output size code for which any address is within the output size.
+pub const WHOLE: u8 = 5;
 
 /// HA and HD as they may stand together (RULES 5.1, row 13).
 pub const UPDATES: [(bool, bool); 3] = [(false, false), (true, false), (true, true)];
@@ -32,11 +35,16 @@ pub enum Placement {
     StartsAtLimit,
     /// It ends at 2^48.
     Top,
+    /// Where its granules, `SHORT` at most, have the same addresses in either
+    /// byte order; the output size must be `WHOLE`.
+    EitherWay,
 }
 
 pub struct Scene {
     pub memory: Vec<u8>,
     pub regime: Regime,
+    /// The descriptors that are put lead to the same granule in either order.
+    pub either_way: bool,
 }
 
 /// A way down from a root: one table and one index for each level.
@@ -154,6 +162,21 @@ pub fn draw_table(random: &mut Random, address: u64) -> u64 {
     (any & !ADDRESS_FIELD & !TAKING_FIELD) | taking | (address & ADDRESS_FIELD) | 3
 }
 
+/// An address whose bytes are the same in either order; all but bytes 5 to 2
+/// are 0.
+fn draw_either_way(random: &mut Random) -> u64 {
+    let (outer, inner) = (random.below(256), random.below(256));
+    outer << 40 | inner << 32 | inner << 24 | outer << 16
+}
+
+/// A descriptor with bits 1..0 in bits 57..56 too, and bits 15..12 in bits
+/// 55..52: with an address as above it has, in either order, one type and one
+/// granule.
+fn made_either_way(descriptor: u64) -> u64 {
+    let (sort, granule) = (descriptor & 3, descriptor >> 12 & 0xF);
+    descriptor & !(0x3F << 52) | sort << 56 | granule << 52
+}
+
 impl Scene {
     /// An empty memory.
     pub fn new() -> Self {
@@ -176,8 +199,10 @@ impl Scene {
                 ha: false,
                 hd: false,
                 wxn: false,
+                ee: false,
                 attributes: [0xFF; 8],
             },
+            either_way: false,
         }
     }
 
@@ -239,15 +264,26 @@ impl Scene {
             Placement::Straddles => limit - GRANULE * random.between(1, granules - 1),
             Placement::StartsAtLimit => limit,
             Placement::Top => PHYSICAL_LIMIT - length,
+            Placement::EitherWay => draw_either_way(random),
         };
+        self.either_way = placement == Placement::EitherWay;
         self.regime.pool = Pool {
             start: before,
             length: length as usize,
             address,
         };
         self.regime.output_code = code;
+        self.draw_controls(random);
+        self.memory.clear();
+        self.memory.resize(before + length as usize + behind, 0);
+        self.fill_likely(random);
+    }
+
+    /// All of the regime but its pool and its output code.
+    fn draw_controls(&mut self, random: &mut Random) {
         (self.regime.ha, self.regime.hd) = draw_updates(random, 2);
         self.regime.wxn = random.coin();
+        self.regime.ee = random.coin();
         for byte in &mut self.regime.attributes {
             *byte = if random.once_in(3) {
                 draw_device(random)
@@ -260,12 +296,10 @@ impl Scene {
                 root: self.draw_root(random),
                 t: random.between(16, 39) as u8,
                 disabled: random.once_in(8),
-                hpd: random.once_in(4),
+                // In the other order any bit of a table may take something away.
+                hpd: random.once_in(4) || self.either_way && random.coin(),
             };
         }
-        self.memory.clear();
-        self.memory.resize(before + length as usize + behind, 0);
-        self.fill_likely(random);
     }
 
     /// Any root that is not refused; mostly one in the pool.
@@ -282,6 +316,7 @@ impl Scene {
     pub fn fill_likely(&mut self, random: &mut Random) {
         let limit = self.limit();
         let (address, granules) = (self.regime.pool.address, self.usable());
+        let ee = self.regime.ee;
         for bytes in self.memory.chunks_mut(8) {
             let noise = random.bits();
             let other = random.bits();
@@ -299,7 +334,7 @@ impl Scene {
                 6 | 7 => table | (other & (limit - 1) & ADDRESS_FIELD) | 3,
                 _ => table | (address + GRANULE * (other % granules)) | 3,
             };
-            bytes.copy_from_slice(&descriptor.to_le_bytes()[..bytes.len()]);
+            bytes.copy_from_slice(&descriptor_bytes(descriptor, ee)[..bytes.len()]);
         }
     }
 
@@ -324,15 +359,28 @@ impl Scene {
     /// Writes a descriptor, also beside the pool; where there is no memory
     /// for it, it is left out.
     pub fn put(&mut self, address: u64, descriptor: u64) {
+        let descriptor = if self.either_way {
+            made_either_way(descriptor)
+        } else {
+            descriptor
+        };
         if let Some(offset) = self.offset(address) {
-            self.memory[offset..offset + 8].copy_from_slice(&descriptor.to_le_bytes());
+            write_descriptor(&mut self.memory, offset, descriptor, self.regime.ee);
+        }
+    }
+
+    /// Turns the bytes of the descriptor at an address round.
+    pub fn reverse(&mut self, address: u64) {
+        if let Some(offset) = self.offset(address) {
+            self.memory[offset..offset + 8].reverse();
         }
     }
 
     /// Gives the descriptor at an address other type bits, 1..0.
     pub fn retype(&mut self, address: u64, bits: u64) {
         if let Some(offset) = self.offset(address) {
-            self.memory[offset] = (self.memory[offset] & !3) | bits as u8;
+            let old = read_descriptor(&self.memory, offset, self.regime.ee);
+            self.put(address, old & !3 | bits);
         }
     }
 

@@ -1,7 +1,9 @@
 //! Trees of every shape: each first level, each leaf level, both ranges,
 //! each output size, each with one thing made odd on purpose.
 
-use super::scene::{draw_access, draw_granules, draw_leaf, draw_table, Path, Placement, Scene};
+use super::scene::{
+    draw_access, draw_granules, draw_leaf, draw_table, Path, Placement, Scene, WHOLE,
+};
 use super::Maker;
 use crate::promises::Expect;
 use crate::random::Random;
@@ -28,6 +30,12 @@ enum Twist {
     Invalid(usize),
     /// Bits 1..0 are 01 at level 0 or 3.
     Reserved(usize),
+    /// The bytes of the descriptor stand in the other order.
+    Reversed(usize),
+    /// Those of all descriptors do.
+    OtherOrder,
+    /// The path is one in either order; with 48 bits of output only.
+    EitherWay,
     /// The table is the last granule within the output size.
     TableBelow(usize),
     /// The table is the first granule beyond it, yet in the pool.
@@ -61,6 +69,8 @@ fn twists(first: usize, leaf_level: usize) -> Vec<Twist> {
         Twist::LeafAt,
         Twist::LeafAbove,
         Twist::OneTable,
+        Twist::OtherOrder,
+        Twist::EitherWay,
         Twist::TopBit,
         Twist::Disabled,
     ];
@@ -70,6 +80,7 @@ fn twists(first: usize, leaf_level: usize) -> Vec<Twist> {
             Twist::BeforeStart(level),
             Twist::Far(level),
             Twist::Invalid(level),
+            Twist::Reversed(level),
             Twist::TableBelow(level),
             Twist::TableAt(level),
             Twist::TableAbove(level),
@@ -99,7 +110,7 @@ struct Wish {
 impl Wish {
     /// With 48 bits of output nothing lies beyond the limit.
     fn has_beyond(&self) -> bool {
-        self.code < 5
+        self.code < WHOLE
     }
 }
 
@@ -140,6 +151,7 @@ fn ask(maker: &mut Maker, wish: &Wish) {
     let mut path = scene.draw_path(random, wish.range, wish.leaf_level);
     bend(random, scene, wish, &mut path);
     scene.lay(random, &path, leaf);
+    mar(random, scene, wish, &path);
     let address = scene.address(random, &path);
     let (address, again) = spoil(random, scene, wish, &path, address);
     let beside = address ^ 1 << random.between(12, 63 - u64::from(wish.t));
@@ -155,6 +167,7 @@ fn draw_scene(random: &mut Random, scene: &mut Scene, wish: &Wish) {
         Twist::TableBelow(_) => (Placement::EndsAtLimit, 1),
         Twist::TableAt(_) | Twist::TableAbove(_) if wish.has_beyond() => (Placement::Straddles, 2),
         Twist::PastEnd(_) | Twist::BeforeStart(_) | Twist::Far(_) => (Placement::Inside, 1),
+        Twist::EitherWay if !wish.has_beyond() => (Placement::EitherWay, 1),
         _ => {
             let some = random.pick(&[
                 Placement::Zero,
@@ -235,9 +248,25 @@ fn bend(random: &mut Random, scene: &Scene, wish: &Wish, path: &mut Path) {
     }
 }
 
-/// Changes what was written, or the address. Gives the address for the path
-/// and one that reaches the same leaf; or, in a loop, one whose leaf is a table
-/// on the path.
+/// Changes what was written, or the order in which it is read.
+fn mar(random: &mut Random, scene: &mut Scene, wish: &Wish, path: &Path) {
+    match wish.twist {
+        Twist::Invalid(level) => scene.retype(path.entry(level), random.below(2) << 1),
+        Twist::Reserved(level) => scene.retype(path.entry(level), 1),
+        Twist::Reversed(level) => scene.reverse(path.entry(level)),
+        Twist::OtherOrder => scene.regime.ee ^= true,
+        Twist::EitherWay => scene.regime.ee ^= random.coin(),
+        Twist::Recursive => {
+            let table = draw_table(random, path.tables[wish.leaf_level]);
+            scene.put(path.entry(wish.leaf_level), table);
+        }
+        _ => {}
+    }
+}
+
+/// Adds to what was written, or changes the address. Gives the address for the
+/// path and one that reaches the same leaf; or, in a loop, one whose leaf is a
+/// table on the path.
 fn spoil(
     random: &mut Random,
     scene: &mut Scene,
@@ -246,12 +275,6 @@ fn spoil(
     address: u64,
 ) -> (u64, u64) {
     match wish.twist {
-        Twist::Invalid(level) => scene.retype(path.entry(level), random.below(2) << 1),
-        Twist::Reserved(level) => scene.retype(path.entry(level), 1),
-        Twist::Recursive => {
-            let table = draw_table(random, path.tables[wish.leaf_level]);
-            scene.put(path.entry(wish.leaf_level), table);
-        }
         Twist::Loop => {
             let mut round = *path;
             round.indices[2] = scene.draw_index(random, wish.range, 2);

@@ -11,6 +11,7 @@ use crate::reference::{
     Kind, Regime, AF, AP1, AP2, DBM, GRANULE, PHYSICAL_LIMIT, POOL_LIMIT, PXN, TAKING, UXN,
 };
 use crate::refusals::{row_1, SET_REGIME};
+use crate::reversed::other_order;
 use crate::session::{Call, Held, Session};
 use std::vec;
 
@@ -20,6 +21,8 @@ struct Mood {
     store: u64,
     drop: u64,
     regime: u64,
+    /// The regime of the moment, in the other byte order.
+    other_order: u64,
     bad_regime: u64,
     bad_access: u64,
     /// The rest, to 100, are accesses; of 8 of them, so many write.
@@ -32,6 +35,7 @@ const EVEN: Mood = Mood {
     store: 16,
     drop: 3,
     regime: 3,
+    other_order: 1,
     bad_regime: 3,
     bad_access: 3,
     writes: 1,
@@ -45,6 +49,13 @@ const DIRTY: Mood = Mood {
 };
 
 const STORES: Mood = Mood { store: 35, ..EVEN };
+
+const ORDERS: Mood = Mood {
+    regime: 1,
+    other_order: 8,
+    writes: 2,
+    ..EVEN
+};
 
 const REGIMES: Mood = Mood {
     store: 10,
@@ -67,6 +78,7 @@ const FILL: Mood = Mood {
     store: 2,
     drop: 0,
     regime: 0,
+    other_order: 0,
     bad_regime: 1,
     bad_access: 1,
     ..EVEN
@@ -87,7 +99,8 @@ fn draw_setting(number: u64, random: &mut Random) -> (&'static str, Mood, World)
     match number % 16 {
         _ if number % 1500 == 8 => (LONG, EVEN, World::long_memory(random, number / 1500)),
         _ if number % 500 == 7 => ("pools", LENGTHS, World::long_pool(random, number / 500)),
-        0..=3 => ("trees", EVEN, mixed(random)),
+        0..=2 => ("trees", EVEN, mixed(random)),
+        3 => ("orders", ORDERS, World::either_way(random)),
         4..=7 => ("dirty", DIRTY, clean(random)),
         8 | 9 => ("stores", STORES, clean(random)),
         10 | 11 => ("regimes", REGIMES, mixed(random)),
@@ -103,8 +116,13 @@ enum Planned {
     Store(u64),
     /// A bit that a table on the way takes something away with is turned.
     Turn(u64),
+    /// The descriptor at which the way gets lost is stored the other way round.
+    Reverse(u64),
     Write(u64),
     Look(u64),
+    /// The regime of the moment is set in the other byte order.
+    OtherOrder,
+    Home,
     Drop,
 }
 
@@ -237,6 +255,8 @@ impl Script {
             (Call::DropAll, None)
         } else if turn(mood.regime) {
             self.draw_regime()
+        } else if turn(mood.other_order) {
+            self.draw_other_order(session)
         } else if turn(mood.bad_regime) {
             (Call::SetRegime(self.draw_bad_regime()), None)
         } else if turn(mood.bad_access) {
@@ -250,16 +270,15 @@ impl Script {
     fn follow_plan(&mut self, session: &Session, memory: &[u8]) -> Option<Call> {
         let regime = session.regime?;
         if self.plan.is_empty() {
-            if self.random.once_in(6) {
-                self.plan_mark(&regime, session);
-            } else if self.mood.store > 0 && self.random.once_in(20) {
-                self.plan_turn(session);
-            }
+            self.plan_ahead(&regime, session);
         }
         let random = &mut self.random;
         match self.plan.pop()? {
             Planned::Store(page) => Some(self.draw_store_for(page, session, memory)),
             Planned::Turn(page) => Some(self.draw_turn(page, session, memory)),
+            Planned::Reverse(page) => Some(self.draw_reversed(page, &regime, memory)),
+            Planned::OtherOrder => Some(Call::SetRegime(other_order(&regime))),
+            Planned::Home => Some(Call::SetRegime(self.world.regimes[0])),
             Planned::Drop => Some(Call::DropAll),
             Planned::Write(page) => {
                 let kind = random.pick(&[Kind::Write, Kind::Update]);
@@ -271,6 +290,21 @@ impl Script {
                 Some(Call::Access(access))
             }
             Planned::Look(page) => Some(Call::Access(draw_access(random, page))),
+        }
+    }
+
+    /// Perhaps makes a plan; none that stores, where nothing is stored.
+    fn plan_ahead(&mut self, regime: &Regime, session: &Session) {
+        let stores = self.mood.store > 0;
+        let lost = regime.ee != self.world.regimes[0].ee && !self.world.either_way;
+        if self.random.once_in(6) {
+            self.plan_mark(regime, session);
+        } else if stores && self.random.once_in(20) {
+            self.plan_turn(session);
+        } else if stores && lost && self.random.once_in(8) {
+            self.plan_reverse();
+        } else if stores && self.world.either_way && self.random.once_in(12) {
+            self.plan_other_order();
         }
     }
 
@@ -311,6 +345,27 @@ impl Script {
         if self.mood.drop > 0 && self.random.once_in(3) {
             self.plan.insert(1, Planned::Drop);
         }
+    }
+
+    /// Where tables were laid in the other order: the way to a page is stored
+    /// anew, one descriptor after the other, and the page written and looked
+    /// at; then perhaps home is set again, where that way is lost.
+    fn plan_reverse(&mut self) {
+        let page = self.random.pick(&self.hot);
+        let (look, reverse) = (Planned::Look(page), Planned::Reverse(page));
+        self.plan = vec![look, Planned::Write(page)];
+        self.plan.extend([reverse; 4]);
+        if self.random.once_in(3) {
+            self.plan.splice(0..0, [look, Planned::Home]);
+        }
+    }
+
+    /// Where tables are tables in either order: the way to a page is changed in
+    /// one, and the page is written and looked at in the other.
+    fn plan_other_order(&mut self) {
+        let page = self.random.pick(&self.hot);
+        let (look, store) = (Planned::Look(page), Planned::Store(page));
+        self.plan = vec![look, Planned::Write(page), Planned::OtherOrder, store, look];
     }
 
     /// A held page, a hot one, or any.
@@ -379,6 +434,14 @@ impl Script {
                 (Call::SetRegime(some), None)
             }
             _ => (Call::SetRegime(home), None),
+        }
+    }
+
+    /// The regime of the moment, in the other byte order.
+    fn draw_other_order(&mut self, session: &Session) -> (Call, Option<usize>) {
+        match session.regime {
+            Some(regime) => (Call::SetRegime(other_order(&regime)), None),
+            None => self.draw_regime(),
         }
     }
 
@@ -459,7 +522,7 @@ impl Script {
         };
         let offset = offset_in_memory(&pool, address);
         let old = match offset {
-            Some(offset) if fits => read_descriptor(memory, offset),
+            Some(offset) if fits => read_descriptor(memory, offset, regime.ee),
             _ => self.random.bits(),
         };
         if offset.is_some() && address & 7 == 0 {
@@ -483,10 +546,24 @@ impl Script {
         }
         let address = self.random.pick(&tables);
         let offset = offset_in_memory(&regime.pool, address).expect("a table was read there");
-        let old = read_descriptor(memory, offset);
+        let old = read_descriptor(memory, offset, regime.ee);
         self.undone.push((address, old));
         let value = old ^ 1 << self.random.pick(&TAKING);
         Call::Store { address, value }
+    }
+
+    /// Stores the last descriptor of the way to a page the other way round,
+    /// where that way reaches no leaf; or else looks at the page.
+    fn draw_reversed(&mut self, page: u64, regime: &Regime, memory: &[u8]) -> Call {
+        match lost_at(page, regime, memory) {
+            Some((address, offset)) => {
+                let old = read_descriptor(memory, offset, regime.ee);
+                self.undone.push((address, old));
+                let value = old.swap_bytes();
+                Call::Store { address, value }
+            }
+            None => Call::Access(draw_access(&mut self.random, page)),
+        }
     }
 
     /// Off the multiples of 8, beside the pool, or far from it.
@@ -513,7 +590,7 @@ impl Script {
         let granule = regime.pool.address + GRANULE * random.below(granules);
         let output = random.below(limit);
         let device = regime.attributes.iter().position(|&byte| is_device(byte));
-        match random.below(33) {
+        match random.below(34) {
             0 | 1 => set_bit(old, AF, true),
             2 | 3 => set_bit(old, AF, false),
             4 | 5 => set_bit(old, AP2, false),
@@ -541,18 +618,30 @@ impl Script {
             }
             // In a table most of these have a say, in a leaf none.
             29..=31 => old ^ 1 << random.between(59, 63),
+            32 => old.swap_bytes(),
             _ => random.bits(),
         }
     }
 }
 
 /// The descriptor addresses on the way to a page, none where the memory is too
-/// short for the pool.
-fn way_to(page: u64, regime: &Regime, memory: &[u8]) -> Vec<u64> {
+/// short for the pool; and whether they reach a leaf.
+fn follow(page: u64, regime: &Regime, memory: &[u8]) -> (Vec<u64>, bool) {
     let pool = &regime.pool;
     let mut visited = Vec::with_capacity(4);
-    if pool.start + pool.length <= memory.len() {
-        let _ = find_leaf(memory, regime, page, &mut visited);
-    }
-    visited
+    let fits = pool.start + pool.length <= memory.len();
+    let reached = fits && find_leaf(memory, regime, page, &mut visited).is_ok();
+    (visited, reached)
+}
+
+fn way_to(page: u64, regime: &Regime, memory: &[u8]) -> Vec<u64> {
+    follow(page, regime, memory).0
+}
+
+/// The last descriptor in the pool on a way that reaches no leaf: its address,
+/// and its offset in the memory.
+fn lost_at(page: u64, regime: &Regime, memory: &[u8]) -> Option<(u64, usize)> {
+    let (visited, reached) = follow(page, regime, memory);
+    let placed = |&at: &u64| Some((at, offset_in_memory(&regime.pool, at)?));
+    visited.iter().rev().find_map(placed).filter(|_| !reached)
 }

@@ -1,10 +1,12 @@
 //! What scripts can meet.
 
+use super::orders::{self, Ordered};
 use super::play::Bytes;
 use crate::boundary::{FAULT, SUCCESS, SUM_BITS};
 use crate::counts::Countable;
 use crate::decisions::Decision;
 use crate::limits::{Limit, Octave};
+use crate::orders::with_each_order;
 use crate::reference::{FaultKind, Kind, POOL_LIMIT, TAKING};
 use crate::refusals::{pairs, ACCESS, SET_REGIME, STORE};
 use crate::rule3::Class;
@@ -156,6 +158,16 @@ pub enum Foreign {
     Hit(u8),
     /// A walk under one.
     Walked(u8),
+    /// A hit with EE, or without.
+    HitWith(bool),
+    /// A walk to a leaf with EE, or without.
+    WalkedWith(bool),
+    /// A store accepted with EE, or without.
+    StoredWith(bool),
+    /// A walk to a leaf with EE spelled with a byte other than 1.
+    OddEeWalked,
+    /// A store accepted with such EE.
+    OddEeStored,
 }
 
 impl Foreign {
@@ -169,8 +181,13 @@ impl Foreign {
             Foreign::NoLevel,
             Foreign::ToldAccessed,
             Foreign::AccessFlag,
+            Foreign::OddEeWalked,
+            Foreign::OddEeStored,
         ];
-        (0..=SUM_BITS).map(Foreign::Sum).chain(alone).chain(under)
+        let of_order = [Foreign::HitWith, Foreign::WalkedWith, Foreign::StoredWith];
+        let orders = of_order.into_iter().flat_map(|of| [of(false), of(true)]);
+        let sums = (0..=SUM_BITS).map(Foreign::Sum);
+        sums.chain(alone).chain(under).chain(orders)
     }
 }
 
@@ -209,6 +226,8 @@ pub enum Feature {
     Emptied(Emptying),
     /// The same, and the tables now take other things away.
     OtherSum(Emptying),
+    /// Under a regime with EE or without.
+    Ordered(bool, Ordered),
     Limit(Asked, Limit),
     /// A leaf that an access marked, by its place in the pool.
     Marked(Octave),
@@ -264,6 +283,7 @@ impl fmt::Display for Feature {
             F::StaleSum(bit, true) => write!(out, "{bit} held"),
             F::StaleSum(bit, false) => write!(out, "{bit} not held"),
             F::Emptied(by) | F::OtherSum(by) => write!(out, "{by:?}"),
+            F::Ordered(_, what) => write!(out, "{what}"),
             F::Limit(asked, limit) => write!(out, "{asked:?} {limit:?}"),
             F::Marked(octave) | F::Stored(octave) => write!(out, "{octave}"),
             F::Odd(odd) => write!(out, "{odd:?}"),
@@ -303,6 +323,8 @@ impl Countable for Feature {
             F::Walked(..) => "walks by what the place held, end, and remembered or not",
             F::Emptied(_) => "walks of a page held before an emptying",
             F::OtherSum(_) => "the same with another sum than it was held with",
+            F::Ordered(true, _) => "with EE",
+            F::Ordered(false, _) => "without EE",
             F::Limit(..) => "limits of memory and pool",
             F::Marked(_) => "leaves marked, by granule of the pool",
             F::Stored(_) => "stores accepted, by granule of the pool",
@@ -321,6 +343,7 @@ impl Countable for Feature {
         hits(&mut all);
         walks(&mut all);
         lengths(&mut all);
+        all.extend(with_each_order(Ordered::all()).map(|(ee, what)| F::Ordered(ee, what)));
         all.extend(Foreign::all().map(F::Foreign));
         all.extend([false, true].map(F::FirstHalf));
         all.insert(F::InScript(Class::NoRegime));
@@ -335,6 +358,13 @@ impl Countable for Feature {
         }
         all.extend([SUCCESS, FAULT].map(F::OneAnswer));
         all
+    }
+
+    fn least(&self) -> u64 {
+        match self {
+            F::Ordered(..) => orders::LEAST,
+            _ => 1,
+        }
     }
 }
 
@@ -380,15 +410,6 @@ fn replies(all: &mut BTreeSet<Feature>) {
     all.extend(with_regime.map(F::RefusedHeld));
 }
 
-const FAULTS: [FaultKind; 6] = [
-    FaultKind::AddressSize,
-    FaultKind::Translation,
-    FaultKind::AccessFlag,
-    FaultKind::Permission,
-    FaultKind::WalkAbort,
-    FaultKind::Alignment,
-];
-
 /// Answers from a place that can occur.
 fn hits(all: &mut BTreeSet<Feature>) {
     for el0 in [false, true] {
@@ -408,7 +429,7 @@ fn hits(all: &mut BTreeSet<Feature>) {
     all.extend([Since::Store, Since::RefusedStore, Since::RefusedRegime].map(F::HitSince));
     all.extend([Since::RefusedAccess, Since::PasserBy, Since::FailedRewalk].map(F::HitSince));
     all.insert(F::Stale(End::Success));
-    all.extend(FAULTS.map(|kind| F::Stale(End::Fault(kind))));
+    all.extend(FaultKind::ALL.map(|kind| F::Stale(End::Fault(kind))));
     all.extend([Odd::ReadTwice, Odd::DirtiedElsewhere, Odd::OtherAddress].map(F::Odd));
     all.extend([Odd::CleanFault, Odd::CleanProbe, Odd::ManyHeld].map(F::Odd));
     all.extend([Odd::NineBeforeOne, Odd::OtherLength, Odd::Unsaid].map(F::Odd));
@@ -422,14 +443,14 @@ fn hits(all: &mut BTreeSet<Feature>) {
 /// Walks that can occur, and what they leave in the place.
 fn walks(all: &mut BTreeSet<Feature>) {
     all.insert(F::Ended(End::Success));
-    all.extend(FAULTS.map(|kind| F::Ended(End::Fault(kind))));
+    all.extend(FaultKind::ALL.map(|kind| F::Ended(End::Fault(kind))));
     for before in [Before::Nothing, Before::OtherPage, Before::SamePage] {
         all.insert(F::Walked(before, End::Success, true));
         // Only a probe succeeds without AF, and only a write walks again.
         if before != Before::SamePage {
             all.insert(F::Walked(before, End::Success, false));
         }
-        for kind in FAULTS {
+        for kind in FaultKind::ALL {
             // A re-walk has HA on.
             if kind != FaultKind::AccessFlag || before != Before::SamePage {
                 all.insert(F::Walked(before, End::Fault(kind), false));
@@ -442,7 +463,7 @@ fn walks(all: &mut BTreeSet<Feature>) {
     for kind in [Kind::Write, Kind::Update] {
         all.insert(F::Rewalk(kind, End::Success, true));
         all.insert(F::Rewalk(kind, End::Success, false));
-        for fault in FAULTS {
+        for fault in FaultKind::ALL {
             if fault != FaultKind::AccessFlag {
                 all.insert(F::Rewalk(kind, End::Fault(fault), false));
             }

@@ -78,7 +78,7 @@ impl<S: Subject> Guest<S> {
         if !why.is_empty() {
             return Err(why);
         }
-        tally.note_foreign(&self.bytes, &before, &call, seen.as_ref());
+        tally.note_foreign(&self.bytes, &before, &call, &got, seen.as_ref());
         Ok(())
     }
 

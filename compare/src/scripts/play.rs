@@ -30,6 +30,7 @@ impl Bytes {
         let mut scene = Scene {
             memory: current.to_vec(),
             regime: *regime,
+            either_way: false,
         };
         match self {
             Bytes::Current => {}

@@ -5,9 +5,10 @@ use super::features::{
     Asked, Before, Effect, Emptying, Feature, Feature as F, Foreign, Odd, Off, Since, Sum, Switch,
     Target,
 };
+use super::orders;
 use super::play::Bytes;
 use crate::boundary::{
-    plain_answer, CAnswer, CEntry, CSession, Reply, FAULT, REFUSED, SUCCESS, SUM_BITS,
+    plain_answer, CAnswer, CEntry, CRegime, CSession, Reply, FAULT, REFUSED, SUCCESS, SUM_BITS,
 };
 use crate::counts::{report_families, Counts};
 use crate::decisions::{decided, succeeds};
@@ -62,6 +63,7 @@ impl Tally {
         };
         self.calls += 1;
         self.note_lengths(event, session);
+        self.note_order(history, seen);
         if !event.is_accepted() {
             self.meet(F::Sum(Sum::RefusedCall));
         }
@@ -98,6 +100,15 @@ impl Tally {
                 }
             }
             _ => {}
+        }
+    }
+
+    /// What the last call meets with EE or without.
+    fn note_order(&mut self, history: &History, seen: Option<&(Answer, Way)>) {
+        if let Some((ee, met)) = orders::of(history, seen) {
+            for what in met {
+                self.meet(F::Ordered(ee, what));
+            }
         }
     }
 
@@ -204,7 +215,7 @@ impl Tally {
         }
         let offset = offset_in_memory(&regime.pool, address);
         if let (true, Some(offset)) = (leaf_of > 0, offset) {
-            self.note_effect(read_descriptor(memory, offset), value);
+            self.note_effect(read_descriptor(memory, offset, regime.ee), value);
         }
     }
 
@@ -488,13 +499,16 @@ impl Tally {
         bytes: &CSession,
         session: &Session,
         call: &Call,
+        reply: &Reply,
         seen: Option<&(Answer, Way)>,
     ) {
         self.calls += 1;
+        let Some(regime) = session.regime else { return };
+        let way = seen.map(|(_, way)| way);
+        self.note_foreign_order(&bytes.regime, &regime, call, reply, way);
         let (Call::Access(access), Some((answer, way))) = (call, seen) else {
             return;
         };
-        let Some(regime) = session.regime else { return };
         let page = page_of(access.address);
         let entry = &bytes.entries[place_of(page)];
         let rows = all_of_set_regime(0, &regime).filter(|&row| row != 1);
@@ -513,6 +527,31 @@ impl Tally {
                     self.meet(F::Foreign(Foreign::NoLevel));
                 }
             }
+        }
+    }
+
+    /// The byte order of such a session, and how its bytes spell it.
+    fn note_foreign_order(
+        &mut self,
+        bytes: &CRegime,
+        regime: &Regime,
+        call: &Call,
+        reply: &Reply,
+        way: Option<&Way>,
+    ) {
+        let stored = matches!((call, reply), (Call::Store { .. }, Reply::Changed(0)));
+        let (with, odd) = match way {
+            None if stored => (Foreign::StoredWith(regime.ee), Foreign::OddEeStored),
+            Some(Way::Held) => return self.meet(F::Foreign(Foreign::HitWith(regime.ee))),
+            Some(Way::Walked(walk) | Way::WalkedAgain(walk)) if walk.leaf.is_some() => {
+                (Foreign::WalkedWith(regime.ee), Foreign::OddEeWalked)
+            }
+            _ => return,
+        };
+        self.meet(F::Foreign(with));
+        // Until a regime is set.
+        if bytes.ee > 1 && bytes.read() == *regime {
+            self.meet(F::Foreign(odd));
         }
     }
 

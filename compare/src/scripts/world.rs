@@ -3,7 +3,7 @@
 
 use crate::cases::scene::{
     draw_clean_leaf, draw_device, draw_granules, draw_leaf, draw_normal, draw_table, draw_updates,
-    Placement, Scene, ENTRIES, SHORT,
+    Placement, Scene, ENTRIES, SHORT, WHOLE,
 };
 use crate::limits::POOL_GRANULES;
 use crate::random::Random;
@@ -11,6 +11,7 @@ use crate::reference::{
     first_level, lowest_index_bit, Regime, ADDRESS_FIELD, AF, AP1, AP2, DBM, GRANULE, MEMORY_LIMIT,
 };
 use crate::refusals;
+use crate::reversed::other_order;
 use crate::session::PLACES;
 
 const PAGE: usize = GRANULE as usize;
@@ -34,6 +35,8 @@ pub struct World {
     pub far: Option<Regime>,
     /// First addresses of pages.
     pub pages: Vec<u64>,
+    /// Its tables are tables in either byte order.
+    pub either_way: bool,
     /// Pages at the end of the pool, where the world was made for them.
     pub ends: Option<Ends>,
 }
@@ -229,19 +232,25 @@ impl Tree {
     }
 }
 
-/// A pool, a home regime and memory behind the pool, before any tree.
-fn draw_scene(random: &mut Random, least: u64, leaves: Leaves) -> Scene {
-    let mut scene = Scene::new();
-    let code = random.below(6) as u8;
-    let granules = draw_granules(random, least);
-    let before = random.pick(&[0, 0, 1, 2]) * PAGE;
-    let behind = 2 * PAGE + random.pick(&[0, 1, 8, 4095]);
-    let placement = random.pick(&[
+fn draw_placement(random: &mut Random) -> Placement {
+    random.pick(&[
         Placement::Zero,
         Placement::Inside,
         Placement::Inside,
         Placement::EndsAtLimit,
-    ]);
+    ])
+}
+
+/// A pool, a home regime and memory behind the pool, before any tree.
+fn draw_scene(random: &mut Random, placement: Placement, least: u64, leaves: Leaves) -> Scene {
+    let mut scene = Scene::new();
+    let granules = draw_granules(random, least);
+    let before = random.pick(&[0, 0, 1, 2]) * PAGE;
+    let behind = 2 * PAGE + random.pick(&[0, 1, 8, 4095]);
+    let code = match placement {
+        Placement::EitherWay => WHOLE,
+        _ => random.below(6) as u8,
+    };
     scene.draw_within(random, code, placement, granules, before, behind);
     let seldom = if leaves == Leaves::Clean { 12 } else { 4 };
     (scene.regime.ha, scene.regime.hd) = draw_updates(random, seldom);
@@ -265,6 +274,9 @@ fn finish(random: &mut Random, scene: Scene, mut pages: Vec<u64>) -> World {
             regimes.push(other);
         }
     }
+    if random.once_in(3) {
+        regimes.push(other_order(&home));
+    }
     let mut far = home;
     far.pool.length += PAGE;
     let needs_more = refusals::of_set_regime(length, &far) == Some(1);
@@ -282,15 +294,17 @@ fn finish(random: &mut Random, scene: Scene, mut pages: Vec<u64>) -> World {
         regimes,
         far: (needs_more && fits_all).then_some(far),
         pages,
+        either_way: scene.either_way,
         ends: None,
     }
 }
 
-/// A regime that differs from home in something.
+/// A regime that differs from home in something, at times in its byte order.
 pub fn vary(random: &mut Random, home: &Regime) -> Regime {
     let mut other = *home;
     (other.ha, other.hd) = draw_updates(random, 2);
     other.wxn = random.coin();
+    other.ee ^= random.once_in(6);
     for range in &mut other.ranges {
         range.hpd ^= random.once_in(3);
     }
@@ -323,8 +337,18 @@ pub fn vary(random: &mut Random, home: &Regime) -> Regime {
 impl World {
     /// Planned trees, one for both ranges or one for each.
     pub fn planned(random: &mut Random, leaves: Leaves) -> World {
+        let placement = draw_placement(random);
+        World::planned_at(random, placement, leaves)
+    }
+
+    /// The same where the order of a tree's bytes does not matter to its shape.
+    pub fn either_way(random: &mut Random) -> World {
+        World::planned_at(random, Placement::EitherWay, Leaves::Clean)
+    }
+
+    fn planned_at(random: &mut Random, placement: Placement, leaves: Leaves) -> World {
         let least = random.pick(&[1, 2, 4, 4, 4]);
-        let mut scene = draw_scene(random, least, leaves);
+        let mut scene = draw_scene(random, placement, least, leaves);
         let mut pages = Vec::new();
         Tree::draw(random, &mut scene, 0, leaves).lay(random, &mut scene, &mut pages);
         if random.coin() {
@@ -341,7 +365,8 @@ impl World {
 
     /// A page for each place, in one table or one block.
     pub fn wide(random: &mut Random) -> World {
-        let mut scene = draw_scene(random, 4, Leaves::Mixed);
+        let placement = draw_placement(random);
+        let mut scene = draw_scene(random, placement, 4, Leaves::Mixed);
         let range = random.below(2) as usize;
         scene.regime.ranges[range].disabled = false;
         let leaves = random.pick(&[Leaves::Mixed, Leaves::Clean]);
@@ -363,7 +388,8 @@ impl World {
 
     /// Likely descriptors without a plan, and pages near each other.
     pub fn unplanned(random: &mut Random) -> World {
-        let mut scene = draw_scene(random, 2, Leaves::Mixed);
+        let placement = draw_placement(random);
+        let mut scene = draw_scene(random, placement, 2, Leaves::Mixed);
         if random.once_in(8) {
             scene.fill_random(random);
         }

@@ -1,11 +1,10 @@
 //! The limits of memory and pool (RULES 2.1 and 2.2) for every call that row 1
 //! is for, the end of the longest pool, and how the tallies tell these.
 
-use super::{access, start, LEAF, POOL};
+use super::{access, read_descriptor, start, write_descriptor, LEAF, POOL};
 use crate::limits::{is_behind, is_last, kept, passed, Limit, Octave};
 use crate::reference::{
-    read_descriptor, walk, write_descriptor, Access, Answer, Kind, Pool, Regime,
-    MEMORY_LIMIT as MEMORY, POOL_LIMIT as LONGEST,
+    walk, Access, Answer, Kind, Pool, Regime, MEMORY_LIMIT as MEMORY, POOL_LIMIT as LONGEST,
 };
 use crate::refusals;
 use crate::session::Session;

@@ -55,9 +55,17 @@ fn make_apply(row: u8, regime: &mut Regime, access: &mut Access) {
     }
 }
 
-/// The refusals of a walk and of a set regime to which rows apply.
+/// The refusals of a walk and of a set regime to which rows apply; EE has no
+/// say in them.
 fn refused(rows: &[u8]) -> (Option<u8>, Option<u8>) {
+    let [without, with] = [false, true].map(|ee| refused_with(ee, rows));
+    assert_eq!(without, with, "{rows:?}");
+    with
+}
+
+fn refused_with(ee: bool, rows: &[u8]) -> (Option<u8>, Option<u8>) {
     let (memory, mut regime) = start();
+    regime.ee = ee;
     let mut asked = access(Kind::Read);
     for &row in rows {
         make_apply(row, &mut regime, &mut asked);

@@ -1,10 +1,8 @@
 //! Short scripts on the session, worked by hand from the numbers of the worked
 //! cases (RULES 12). Page 0x403 has place 3, its leaf is at 0x40003018.
 
-use super::{access, start, LEAF, LEAF_OFFSET};
-use crate::reference::{
-    read_descriptor, write_descriptor, Access, Answer, Kind, Regime, Success, AP1, AP2, POOL_LIMIT,
-};
+use super::{access, read_descriptor, start, write_descriptor, LEAF, LEAF_OFFSET};
+use crate::reference::{Access, Answer, Kind, Regime, Success, AP1, AP2, POOL_LIMIT};
 use crate::refusals::SET_REGIME;
 use crate::session::{page_of, place_of, Held, Session};
 

@@ -6,7 +6,7 @@ use crate::boundary::{
     CAccess, CAnswer, CEntry, CRegime, CSession, Library, LibrarySession, SessionFunctions,
     Spelling, Subject, SUM_BITS,
 };
-use crate::reference::{Kind, AP_TABLE_1, PXN_TABLE};
+use crate::reference::{Kind, Regime, AP_TABLE_1, PXN_TABLE};
 use crate::session::{Call, PLACES};
 use std::mem::offset_of;
 
@@ -43,7 +43,7 @@ unsafe extern "C" fn empty(session: *mut CSession) {
         set: 0,
         spare: [0; 7],
     };
-    (*session).regime.spare = [0; 6];
+    (*session).regime.spare = [0; 5];
 }
 
 unsafe extern "C" fn set(
@@ -180,7 +180,7 @@ unsafe extern "C" fn clear_idle_bits_in_store(
 
 unsafe extern "C" fn drop_all_and_more(session: *mut CSession) {
     drop_all(session);
-    (*session).regime.spare = [0; 6];
+    (*session).regime.spare = [0; 5];
 }
 
 unsafe extern "C" fn answer_but_spare(
@@ -280,7 +280,9 @@ fn slips_of_the_others_are_told() {
 fn the_offsets_are_those_of_the_interface() {
     assert_eq!(offset_of!(CRegime, hpd0), 56);
     assert_eq!(offset_of!(CRegime, hpd1), 57);
-    assert_eq!(REGIME_SPARE, 58);
+    assert_eq!(offset_of!(CRegime, ee), 58);
+    assert_eq!(REGIME_SPARE, 59);
+    assert_eq!(size_of::<CRegime>() - REGIME_SPARE, 5);
     assert_eq!((TABLES, ENTRY_SPARE), (18, 19));
     assert_eq!(entry(1), 64 + 24);
 }
@@ -309,6 +311,33 @@ fn spare_bytes_say_nothing() {
     assert_eq!(CEntry { held: 0, ..held }.read(), None);
 }
 
+/// Any byte but 0 says EE, alone and in a session; and no spare byte does.
+#[test]
+fn any_byte_but_0_says_ee() {
+    let (_, regime) = start();
+    let mut words = Spelling::PLAIN.regime(&regime);
+    words.spare = [0xFF; 5];
+    for byte in 0..=0xFF {
+        words.ee = byte;
+        let ee = byte != 0;
+        assert_eq!(words.read(), Regime { ee, ..regime }, "{byte}");
+        let session = CSession {
+            regime: words,
+            entries: [EMPTY; PLACES],
+            set: 1,
+            spare: [0; 7],
+        };
+        assert_eq!(session.read().regime, Some(Regime { ee, ..regime }));
+    }
+    for truth in 1..=0xFF {
+        let odd = Spelling { truth, ..NOISY };
+        assert_eq!(odd.regime(&regime).ee, 0);
+        let with_ee = Regime { ee: true, ..regime };
+        assert_eq!(odd.regime(&with_ee).ee, truth);
+        assert_eq!(odd.regime(&with_ee).read(), with_ee);
+    }
+}
+
 #[test]
 fn another_meaning_is_told() {
     // SAFETY: as above.
@@ -335,6 +364,11 @@ fn another_meaning_is_told() {
     assert_eq!(bytes.read().places[3].unwrap().leaf.taken, 1 << PXN_TABLE);
     bytes.regime.hpd1 = 2;
     assert!(bytes.read().regime.unwrap().ranges[1].hpd);
+    session.put(&bytes);
+    let told = session.wrong_session(&wanted).unwrap();
+    assert!(told.contains("regime"), "{told}");
+    bytes.regime.hpd1 = 0;
+    bytes.regime.ee = 0x80;
     session.put(&bytes);
     let told = session.wrong_session(&wanted).unwrap();
     assert!(told.contains("regime"), "{told}");

@@ -1,12 +1,15 @@
 //! The bits with which tables take permissions away (RULES 6.11), worked by
 //! hand from the numbers of the worked cases (RULES 12).
 
-use super::{access, fault, go, misaligned, start, success, LEAF, LEAF_OFFSET, POOL};
+use super::{
+    access, fault, go, misaligned, read_descriptor, start, success, write_descriptor, LEAF,
+    LEAF_OFFSET, POOL,
+};
 use crate::boundary::plain_answer;
 use crate::promises::{self, Expect};
 use crate::reference::{
-    read_descriptor, walk, write_descriptor, Access, Answer, Kind, Regime, AF, AP1, AP2,
-    AP_TABLE_0, AP_TABLE_1, DBM, PXN_TABLE, TAKING, UXN_TABLE,
+    walk, Access, Answer, Kind, Regime, AF, AP1, AP2, AP_TABLE_0, AP_TABLE_1, DBM, PXN_TABLE,
+    TAKING, UXN_TABLE,
 };
 use crate::session::{Session, Way};
 use crate::{bare, decisions};

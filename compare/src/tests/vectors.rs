@@ -60,6 +60,8 @@ end
 ";
 
 const NAME: &str = "made.txt";
+/// What is reported where no party differs.
+const SAME: &str = "made.txt: 2 cases, 11 calls, 0 differences";
 
 fn open(text: &str) -> Result<File, String> {
     File::new(NAME, text.as_bytes())
@@ -93,16 +95,15 @@ fn good_cases_are_held() {
     assert_eq!([file.cases[0].number, file.cases[1].number], [3, 4]);
     let notes = [file.cases[0].note.as_deref(), file.cases[1].note.as_deref()];
     assert_eq!(notes, [Some("P2, P11  and a refusal"), None]);
-    let report = file.hold(&Second);
-    let told = "made.txt: 2 cases, 11 calls, 0 differences";
-    assert_eq!(report.to_string(), told);
+    assert_eq!(file.hold(&Second).to_string(), SAME);
 }
 
 /// The files of the folder `vectors` by name, and the cases that each has.
-const SHIPPED: [(&str, usize); 3] = [
+const SHIPPED: [(&str, usize); 4] = [
     ("after-q02.txt", 134),
     ("after-q06.txt", 143),
     ("after-q07.txt", 141),
+    ("after-q09.txt", 128),
 ];
 
 #[test]
@@ -133,13 +134,38 @@ fn hpd_may_be_left_out() {
             text = text.replacen("change 0x3018 4357\n", "", 1);
         }
         let report = open(&text).unwrap().hold(&Second).to_string();
-        let told = "made.txt: 2 cases, 11 calls, 0 differences";
-        assert_eq!(report, told, "{setting:?}");
+        assert_eq!(report, SAME, "{setting:?}");
     }
     let twice = "setting `hpd0` a second time";
     refuses("start=0", "hpd0=0 start=0 hpd0=0", twice);
     let odd = "setting `hpd1`: `2` is no FLAG: 0 or 1";
     refuses("start=0", "hpd1=2 start=0", odd);
+}
+
+/// The walks over tables that stand highest byte first, and EE by its setting
+/// or left out.
+#[test]
+fn ee_may_be_left_out() {
+    let report = |text: &str| open(text).unwrap().hold(&Second).to_string();
+    for setting in ["wxn=0", "wxn=0 ee=0"] {
+        assert_eq!(report(&GOOD.replace("wxn=0", setting)), SAME, "{setting}");
+    }
+    let mut text = GOOD.to_string();
+    for (old, new) in [
+        ("bytes 0 03100040", "bytes 4 40001003"),
+        ("bytes 0x1000 03200040", "bytes 0x1004 40002003"),
+        ("bytes 0x2010 03300040", "bytes 0x2014 40003003"),
+        ("bytes 0x3018 c3530080000008", "bytes 0x3019 080000800053c3"),
+        ("change 0x3018 4357", "change 0x301e 5743"),
+    ] {
+        text = text.replacen(old, new, 1);
+    }
+    assert_eq!(report(&text.replacen("wxn=0", "wxn=0 ee=1", 1)), SAME);
+    assert_ne!(report(&text), SAME);
+    let twice = "setting `ee` a second time";
+    refuses("start=0", "ee=1 start=0 ee=1", twice);
+    let odd = "setting `ee`: `2` is no FLAG: 0 or 1";
+    refuses("start=0", "ee=2 start=0", odd);
 }
 
 // ------------------------------------------------------------------- errors

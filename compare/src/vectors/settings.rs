@@ -24,12 +24,13 @@ pub const REGIME: &[Setting<Regime>] = &[
     ("ha", |r, w| put(&mut r.ha, w)),
     ("hd", |r, w| put(&mut r.hd, w)),
     ("wxn", |r, w| put(&mut r.wxn, w)),
+    ("ee", |r, w| put(&mut r.ee, w)),
     ("attributes", |r, w| put(&mut r.attributes, w)),
 ];
 
 /// Those that a line may leave out, as older files do: then they are as in
 /// `NO_REGIME`.
-const LATER: [&str; 2] = ["hpd0", "hpd1"];
+const LATER: [&str; 3] = ["hpd0", "hpd1", "ee"];
 
 pub const OK: &[Setting<CAnswer>] = &[
     ("output", |a, w| put(&mut a.output, w)),
@@ -67,6 +68,7 @@ pub const NO_REGIME: Regime = Regime {
     ha: false,
     hd: false,
     wxn: false,
+    ee: false,
     attributes: [0; 8],
 };
 

@@ -1,13 +1,15 @@
 -- Rule 1 holds of every call of the model, and of every call of functions that leave what `leaves` says.
-use Prim.Native.Nat.{ℕ, _+_, _≤_}
+use Prim.Native.Nat.{ℕ, _+_, _-_, _^_, _≤_, _<_}
 use mathlib.Core.Bool.{Bool, true, false}
 use mathlib.Core.List.{List}
 use mathlib.Core.Option.{Option, none, some}
 use mathlib.Core.Path.{_≡_, refl, sym, ap, subst, subst⁻¹, _∙_}
 use native.Mathlib.Omega.{arith}
 use lib.ListN.{length, getD}
+use borrow.Author.Tests.{le-leb}
 use Rattle.descriptor.specs.Bytes.{put}
 use Rattle.descriptor.specs.Bits.{pick}
+use Rattle.descriptor.proofs.Laws.{length-put, desc-put}
 use Rattle.descriptor.proofs.Tests.{clash}
 use Rattle.vmsa.specs.Answers.{Result, numberOf, dirtiedIn}
 use Rattle.vmsa.specs.declared.Regime.{Regime}
@@ -18,8 +20,12 @@ use Rattle.checks.specs.declared.Checked.{Checked}
 use Rattle.checks.specs.declared.Checked.the-variants.{Accepted, Refused}
 use Rattle.checks.specs.Order.{firstOf, memoryRows, settingRows, accessRows, storeRows, regimeCheck, sessionStoreCheck}
 use Rattle.checks.proofs.Accept.{clear, pooled}
-use Rattle.walk.proofs.Parts.{length-part}
+use Rattle.lookup.specs.declared.Word.the-variants.{Value}
+use Rattle.lookup.specs.Steps.{fetched}
+use Rattle.walk.specs.Walk.{poolBytes}
+use Rattle.walk.proofs.Parts.{length-part, part-put}
 use Rattle.rules.specs.Rule1.{FirstNumber}
+use Rattle.rules.specs.Tables.{readerOf}
 use Rattle.rules.proofs.Refusals.{first-refuses, refuses-first}
 use Rattle.tlb.specs.Replies.{Reply, done, refused, answered, Told, updates}
 use Rattle.tlb.specs.Walker.{Spot, lost, found, andThen, Entry, empty, heldIn, Walked, declined, putWord, walkFrom, walked, accessHeld, accessBy, accessIn}
@@ -30,10 +36,10 @@ use Rattle.tlb.proofs.Found.{where-found, in-the-pool}
 use Rattle.session.specs.declared.Session.{Session as SessionStruct}
 use Rattle.session.specs.Model.{Session, Handed, handed, Stepped, stay, refusal, keep, setBy, learn, accessWith, storeBy, storeIn, Call, setRegime, access, store, dropAll, call}
 use Rattle.session.specs.View.{sessionView, regimeHeld, setAfter, entryIn, withEntry, sessionAfter, leaves}
-use Rattle.session.proofs.Calls.{set-checked, store-accepted, access-learn, given, access-is, unkept-same, viewed-leaves}
+use Rattle.session.proofs.Calls.{set-checked, Storable, store-accepted, access-learn, given, access-is, unkept-same, viewed-leaves}
 use Rattle.calls.specs.Chains.{event, Functions, Leaving, Calling, regimeAfter}
 use Rattle.calls.proofs.Memories.{Written, still, wrote, written-long, written-bytes, written-outside, written-same, pool-same, located-same}
-use Rattle.calls.specs.Rule1.{rowsOf, InPool, Reach, Rule1Event, Same, Rule1Call, Rule1OfModel}
+use Rattle.calls.specs.Rule1.{rowsOf, InPool, Reach, StoredAt, Rule1Event, Same, Rule1Call, Rule1OfModel}
 
 -- ---- a refused call, and any other
 
@@ -183,14 +189,14 @@ module _ (r : Regime) (a : Access) (m n : List ℕ) (h : Same (InPool (some r)) 
       by true = both-walk
       by false = record { reply = refl; kept = refl; memory = still }
 
+-- rows 1, 6 and 7, and rows 1 and 8
+accessChecks : Regime → Access → ℕ → Checked
+accessChecks r a k = andThen (firstOf (memoryRows k (r .pool))) (firstOf (accessRows a))
+
+storeChecks : Regime → ℕ → ℕ → Checked
+storeChecks r address k = andThen (firstOf (memoryRows k (r .pool))) (firstOf (storeRows (r .pool) address))
+
 module _ (m n : List ℕ) where
-  -- rows 1, 6 and 7, and rows 1 and 8
-  accessChecks : Regime → Access → ℕ → Checked
-  accessChecks r a k = andThen (firstOf (memoryRows k (r .pool))) (firstOf (accessRows a))
-
-  storeChecks : Regime → ℕ → ℕ → Checked
-  storeChecks r address k = andThen (firstOf (memoryRows k (r .pool))) (firstOf (storeRows (r .pool) address))
-
   both-access : (r : Regime) (a : Access) (x : Option Leaf) → Same (InPool (some r)) m n → (y : Checked) → accessChecks r a (length m) ≡ y
       → BothWalk (InPool (some r)) m n (accessBy ours r m a x y) (accessBy ours r n a x y)
   unfolding accessChecks
@@ -272,6 +278,38 @@ regime-after s m (access a) = ap (λ (y : Stepped). y .session .regime) (sym (ac
 regime-after s m (store address value) = refl
 regime-after s m dropAll = refl
 
+-- ---- what an accepted store leaves
+
+-- where a descriptor was stored, a walk reads it
+read-back : (r : Regime) (m : List ℕ) (address value : ℕ) → Storable (length m) (r .pool) address → value < 2 ^ 64 → readerOf r (put (r .ee) m (offsetOf r address) value) address ≡ Value value
+unfolding fetched
+read-back r m address value t small =
+    let base = r .pool .address .0 in
+    let n = r .pool .length in
+    let i = address - base in
+    let pool = poolBytes (r .pool) m in
+    let room : i + 8 ≤ n = omega (arith, t .least, t .most) in
+    let l : length pool ≡ n = length-part m (r .pool .start) n (t .fits) in
+    let long : length (put (r .ee) pool i value) ≡ n = length-put (r .ee) pool i value (rw l room) ∙ l in
+    rw (part-put (r .ee) m (r .pool .start) n i value (t .fits) room, long, le-leb base address (t .least), le-leb (address + 8) (base + n) (t .most))
+    (ap Value (desc-put (r .ee) pool i value (rw l room) small))
+
+store-leaves : (r : Regime) (m : List ℕ) (address value : ℕ) (x : Checked) → storeChecks r address (length m) ≡ x → storeBy ours r m address value x .reply ≡ done
+    → StoredAt r address value m (storeBy ours r m address value x .memory)
+unfolding storeChecks sessionStoreCheck
+store-leaves r m address value (Refused x) e q = clash (cc)
+store-leaves r m address value Accepted e q =
+    let t = store-accepted (length m) (r .pool) address (first-append (memoryRows (length m) (r .pool)) (storeRows (r .pool) address) ∙ e) in
+    subst⁻¹ (λ (left : List ℕ). StoredAt r address value m left) (put-is r m (offsetOf r address) value) (record { bytes = refl; read = read-back r m address value t })
+
+call-stores : (s : Session) (m : List ℕ) (c : Call) (r : Regime) (address value : ℕ) → s .regime ≡ some r → c ≡ store address value → call ours s m c .reply ≡ done
+    → StoredAt r address value m (call ours s m c .memory)
+unfolding storeChecks
+call-stores s m c r address value g q =
+    subst⁻¹ (λ (d : Call). call ours s m d .reply ≡ done → StoredAt r address value m (call ours s m d .memory)) q
+    (subst⁻¹ (λ (o : Option Regime). storeIn ours o m address value .reply ≡ done → StoredAt r address value m (storeIn ours o m address value .memory)) g
+    (store-leaves r m address value (storeChecks r address (length m)) refl))
+
 -- ---- rule 1 of one call of the model
 
 rule1-event : (s : Session) (m : List ℕ) (c : Call) → Rule1Event (s .regime) (event c m (call ours s m c))
@@ -282,6 +320,7 @@ rule1-event s m c =
       long = written-long (written-self s m c);
       outside = written-outside (written-self s m c);
       bytes = written-bytes (written-self s m c);
+      stored = call-stores s m c;
     }
 
 pub rule-1-call : Rule1OfModel

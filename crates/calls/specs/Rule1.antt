@@ -1,20 +1,22 @@
 -- Rule 1 (RULES 13) for the calls of a session: any session, any memory, any call; and every list of calls.
 -- That every call gets an answer and ends is the code's contract, which asks nothing of its caller (`..-free` in proofs/Promises.antt of session, lent, capi_walk and capi_session).
-use Prim.Native.Nat.{ℕ, _+_, _<_, _≤_}
+use Prim.Native.Nat.{ℕ, _+_, _^_, _<_, _≤_}
 use mathlib.Core.Bool.{Bool, true, false}
 use mathlib.Core.List.{List, [], _∷_, _++_, map}
 use mathlib.Core.Logic.{_↔_}
 use mathlib.Core.Option.{Option, none, some}
 use mathlib.Core.Path.{_≡_}
 use lib.ListN.{length, getD}
-use Rattle.descriptor.specs.Bytes.{Bytes}
+use Rattle.descriptor.specs.Bytes.{Bytes, put}
 use Rattle.vmsa.specs.declared.Regime.{Regime}
 use Rattle.vmsa.specs.declared.Refusal.{Refusal}
 use Rattle.vmsa.specs.declared.Refusal.the-variants.{NoRegime}
 use Rattle.checks.specs.Order.{memoryRows, regimeRows, accessRows, storeRows}
+use Rattle.lookup.specs.declared.Word.the-variants.{Value}
 use Rattle.rules.specs.Rule1.{FirstNumber, Managed}
-use Rattle.tlb.specs.Replies.{Reply, refused}
-use Rattle.tlb.specs.Ours.{ours}
+use Rattle.rules.specs.Tables.{readerOf}
+use Rattle.tlb.specs.Replies.{Reply, done, refused}
+use Rattle.tlb.specs.Ours.{offsetOf, ours}
 use Rattle.session.specs.Model.{Session, Handed, Call, setRegime, access, store, dropAll, call}
 use Rattle.calls.specs.Chains.{Event, event, Functions, Calling, Chain, regimeAfter, regimeFrom}
 
@@ -46,6 +48,11 @@ Reach g dropAll i = ⊥
 
 -- ---- one call
 
+-- what an accepted store leaves: the value at its address, in the byte order of the regime, and every other byte as it was; a walk under that regime reads it there
+pub record StoredAt (r : Regime) (address value : ℕ) (m left : List ℕ) : Type 0 where
+  pub bytes : left ≡ put (r .ee) m (offsetOf r address) value
+  pub read : value < 2 ^ 64 → readerOf r left address ≡ Value value
+
 -- what its event shows, g being the session's regime
 pub record Rule1Event (g : Option Regime) (e : Event) : Type 0 where
   -- a refusal is given exactly where the table (RULES 5) says, with the number of the first row that applies
@@ -56,6 +63,8 @@ pub record Rule1Event (g : Option Regime) (e : Event) : Type 0 where
   pub long : length (e .left) ≡ length (e .found)
   pub outside : (i : ℕ) → (Reach g (e .made) i → ⊥) → getD (e .left) i 0 ≡ getD (e .found) i 0
   pub bytes : Bytes (e .found) → Bytes (e .left)
+  -- an accepted store stores what it was given
+  pub stored : (r : Regime) (address value : ℕ) → g ≡ some r → e .made ≡ store address value → e .reply ≡ done → StoredAt r address value (e .found) (e .left)
 
 -- two memories of one length with the same bytes at these offsets
 pub record Same (At : ℕ → Type 0) (m n : List ℕ) : Type 0 where

@@ -4,9 +4,9 @@ use mathlib.Core.Path.{_≡_, refl, ap, _∙_}
 use Prim.Native.Nat.{ℕ, _+_, _-_, _≤_}
 use mathlib.Core.List.{List, [], _∷_}
 use lib.Dec.{eqb, lit≤}
-use lib.ListN.{length, take, drop}
+use lib.ListN.{replicate, take, drop, length-replicate}
 use borrow.Author.Tests.{eqb-true}
-use Rattle.descriptor.specs.Bytes.{digits, ordered, bytesOf}
+use Rattle.descriptor.specs.Bytes.{digits, inOrder, bytesOf}
 use Rattle.descriptor.specs.Bits.{setBit, clearBit}
 use Rattle.descriptor.proofs.Laws.{take-put}
 use Rattle.descriptor.proofs.Tests.{and-true}
@@ -16,13 +16,13 @@ use Rattle.vmsa.specs.Fields.{tableBits, withTable}
 use Rattle.refusals.specs.Tests.{memoryPoolBad, poolAddressBad, tszBad, sizesBad, rootBad, rootsBad, attributeBad, attributesBad, dirtyStateBad, accessSizeBad, lastByte, crossing}
 use Rattle.checks.specs.Order.{walkCheck}
 use Rattle.vmsa.specs.declared.Regime.{Regime}
-use Rattle.vmsa.specs.declared.AccessKind.the-variants.{Read, Write}
+use Rattle.vmsa.specs.declared.AccessKind.the-variants.{Read}
 use Rattle.lookup.specs.Trace.{Trace}
 use Rattle.lookup.specs.Steps.{invalid, isTable, addressIn, decoded, entryAt, followed, entered, descend, upper, rangeOf, outside, contextOf, lookup, locate}
 use Rattle.permission.specs.Permission.{attributeOf, writable, clean, user, uxn, pxn, mayRead, mayWrite, mayFetchWith, mayFetch, permitted, misaligned, flagFails, alignmentFails, permissionFails}
 use Rattle.decision.specs.Decision.{flagDue, dirtyDue, updated, cacheable, outputOf, failing, passing, decision}
 use Rattle.walk.specs.Walk.{Outcome}
-use Rattle.cases.specs.Cases.{poolAddress, base, bigEndian, usual, leafAddress, dirtyLeaf, withThird, tables, puts, memoryOf, Row, row, expected, Holds, All, passed, leafNow, rows, visitedIn, leafBytes, Worked}
+use Rattle.cases.specs.Cases.{poolAddress, base, bigEndian, usual, leafAddress, withLeaf, withThird, puts, memoryOf, Row, expected, Holds, All, written, otherWay, rows, visitedIn, leafBytes, firstBytes, Worked}
 use Rattle.cases.proofs.Quick.{placed, allPlaced, valueAt, quick, quickWalk}
 use Rattle.cases.proofs.Sparse.{memory-length, traced-quick, walk-quick}
 
@@ -67,25 +67,31 @@ all-computed = refl
 visited : (ds : List (ℕ × ℕ)) → allPlaced (base .pool .length) ds ≡ true → visitedIn ds ≡ locate base (quick (base .ee) (base .pool .length) ds poolAddress) (usual Read .address .0) .visited
 visited ds ok = ap (λ (t : Trace). t .visited) (traced-quick base (usual Read .address .0) ds ok)
 
--- P2's row
-abbrev written : Regime → Row
-written r = row r (usual Write) tables (passed 0x80005ABC true true true) (leafNow dirtyLeaf)
-
--- the bytes that it leaves of the leaf, from the row
-leaf-bytes : (r : Regime) → allPlaced (r .pool .length) tables ≡ true → leafAddress - poolAddress + 8 ≤ r .pool .length → Holds (written r) → leafBytes r ≡ bytesOf (r .ee) dirtyLeaf
+-- the bytes that a write leaves of the leaf, from its row
+leaf-bytes : (r : Regime) (v output w : ℕ) → allPlaced (r .pool .length) (withLeaf v) ≡ true → leafAddress - poolAddress + 8 ≤ r .pool .length → Holds (written r v output w)
+    → leafBytes (written r v output w) ≡ bytesOf (r .ee) w
 unfolding Holds puts
-leaf-bytes r ok k h =
+leaf-bytes r v output w ok k h =
     let n = r .pool .length in
     ap (λ (o : Outcome). take 8 (drop (leafAddress - poolAddress) (o .bytes))) h
-    ∙ take-put (r .ee) (memoryOf (r .ee) n tables) (leafAddress - poolAddress) dirtyLeaf (rw (memory-length (r .ee) n tables ok) k)
+    ∙ take-put (r .ee) (memoryOf (r .ee) n (withLeaf v)) (leafAddress - poolAddress) w (rw (memory-length (r .ee) n (withLeaf v) ok) k)
+
+-- those of one descriptor, the first, in a memory of zeros
+first-bytes : (r : Regime) → 8 ≤ r .pool .length → firstBytes (otherWay r) ≡ bytesOf (r .ee) 0x0310004000000000
+unfolding memoryOf puts
+first-bytes r k = take-put (r .ee) (replicate (r .pool .length) 0) 0 0x0310004000000000 (rw (length-replicate {A = ℕ} (r .pool .length) 0) k)
 
 pub worked : Worked
-unfolding Worked All rows bytesOf ordered digits allPlaced placed valueAt quick pageSize strideBits unaligned pageOf levelOf shiftOf span blockAt firstLeft cut outputBits outputLimit attribute device normal memoryPoolBad poolAddressBad tszBad sizesBad rootBad rootsBad attributeBad attributesBad dirtyStateBad accessSizeBad lastByte crossing walkCheck invalid isTable addressIn decoded entryAt followed entered descend upper rangeOf outside contextOf lookup locate tableBits withTable
+unfolding Worked All rows bytesOf inOrder digits allPlaced placed valueAt quick pageSize strideBits unaligned pageOf levelOf shiftOf span blockAt firstLeft cut outputBits outputLimit attribute device normal memoryPoolBad poolAddressBad tszBad sizesBad rootBad rootsBad attributeBad attributesBad dirtyStateBad accessSizeBad lastByte crossing walkCheck invalid isTable addressIn decoded entryAt followed entered descend upper rangeOf outside contextOf lookup locate tableBits withTable
 worked =
     let all = each rows all-sound all-computed in (
       all,
-      leaf-bytes base refl (lit≤ tt) (all .1 .0),
-      leaf-bytes bigEndian refl (lit≤ tt) (all .1 .1 .0),
+      leaf-bytes base _ _ _ refl (lit≤ tt) (all .1 .0),
+      leaf-bytes bigEndian _ _ _ refl (lit≤ tt) (all .1 .1 .0),
+      leaf-bytes base _ _ _ refl (lit≤ tt) (all .1 .1 .1 .0),
+      leaf-bytes bigEndian _ _ _ refl (lit≤ tt) (all .1 .1 .1 .1 .0),
+      first-bytes bigEndian (lit≤ tt),
+      first-bytes base (lit≤ tt),
       visited (withThird 0x4000F003) refl,
       visited (withThird 0x40010003) refl,
       refl,

@@ -10,7 +10,7 @@ use lib.Dec.{leb, ltb, eqb}
 use lib.ListN.{replicate, length, take, drop, length-replicate, replicate-append-replicate}
 use lib.Seq.{take-length, drop-length, take-at, drop-at}
 use borrow.Author.Tests.{eqb-true, eqb-false, leb-true, ltb-true, ltb-false}
-use Rattle.descriptor.specs.Bytes.{number, ordered, valueOf, desc, put}
+use Rattle.descriptor.specs.Bytes.{number, inOrder, valueOf, desc, put}
 use Rattle.descriptor.specs.Bits.{pick}
 use Rattle.descriptor.proofs.Laws.{length-put, desc-put-aligned}
 use Rattle.descriptor.proofs.Tests.{and-true}
@@ -45,7 +45,7 @@ zero-bytes n j h =
     rw (s, drop-at (zeros j) (zeros 8 ++ zeros rest) j (zeros-length j), take-at (zeros 8) (zeros rest) 8 (zeros-length 8))
 
 zero-value : (ee : Bool) → valueOf ee (zeros 8) ≡ 0
-unfolding valueOf ordered number
+unfolding valueOf inOrder number
 zero-value true = refl
 zero-value false = refl
 

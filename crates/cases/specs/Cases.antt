@@ -175,14 +175,30 @@ failed code level cacheable reads = fault (record { code = code; level = level; 
 abbrev pub leafNow : ℕ → List (ℕ × ℕ)
 leafNow v = stored leafAddress v ∷ []
 
+-- P2's write over a leaf v, with its output address: the leaf becomes w
+abbrev pub written : Regime → ℕ → ℕ → ℕ → Row
+written r v output w = row r (usual Write) (withLeaf v) (passed output true true true) (leafNow w)
+
+abbrev pub p2 : Regime → Row
+p2 r = written r leaf 0x80005ABC dirtyLeaf
+
+abbrev pub eightBytes : Regime → Row
+eightBytes r = written r 0x99084433221153C3 0x443322115ABC 0x9908443322115743
+
+-- P1's read where the first descriptor has its 8 bytes the other way round
+abbrev pub otherWay : Regime → Row
+otherWay r = row r (usual Read) (stored 0x40000000 0x0310004000000000 ∷ []) (failed 4 0 false 1) []
+
 unfoldable pub rows : List Row
 rows =
     -- P1
     row base (usual Read) tables (passed 0x80005ABC true false true) (leafNow accessedLeaf)
-    -- P2
-    ∷ row base (usual Write) tables (passed 0x80005ABC true true true) (leafNow dirtyLeaf)
-    -- P2 with EE on, all descriptors big-endian
-    ∷ row bigEndian (usual Write) tables (passed 0x80005ABC true true true) (leafNow dirtyLeaf)
+    -- P2; and with EE on, all descriptors big-endian
+    ∷ p2 base
+    ∷ p2 bigEndian
+    -- the same with a leaf of eight different bytes
+    ∷ eightBytes base
+    ∷ eightBytes bigEndian
     -- P3, with the size that a probe has; size 4 is refused
     ∷ row base (access 0x403ABC 1 ProbeWrite) tables (passed 0x80005ABC false false false) []
     ∷ row base (usual ProbeWrite) tables (refused 6) []
@@ -268,26 +284,34 @@ rows =
     ∷ row (withHd bigEndian false) (usual Write) tables (failed 15 3 false 4) []
     ∷ row bigEndian (usual Read) (withThird 0x40010003) (failed 23 3 false 4) []
     ∷ row bigEndian (usual Write) (underSecond 0b01000 leaf) (failed 15 3 false 4) []
-    -- a table descriptor in the other order, with EE on and off: its bit 0 is that of another byte
-    ∷ row bigEndian (usual Read) (stored 0x40000000 0x0310004000000000 ∷ []) (failed 4 0 false 1) []
-    ∷ row base (usual Read) (stored 0x40000000 0x0310004000000000 ∷ []) (failed 4 0 false 1) []
+    -- the first descriptor in the other order, with EE on and off: bit 0 is then that of another byte
+    ∷ otherWay bigEndian
+    ∷ otherWay base
     ∷ []
 
 -- the descriptor addresses that the usual access visits, in order
 abbrev pub visitedIn : List (ℕ × ℕ) → List ℕ
 visitedIn found = traced base (memoryOf (base .ee) (base .pool .length) found) (usual Read .address .0) .visited
 
--- the 8 bytes of the leaf's descriptor that P2 leaves under a regime
-abbrev pub leafBytes : Regime → List ℕ
-leafBytes r = take 8 (drop (leafAddress - poolAddress) (walk r (usual Write) (memoryOf (r .ee) (r .pool .length) tables) .bytes))
+-- the 8 bytes of the leaf's descriptor that the walk of a row leaves; and those of the first descriptor that it finds
+abbrev pub leafBytes : Row → List ℕ
+leafBytes r = take 8 (drop (leafAddress - poolAddress) (walk (r .regime) (r .access) (memory r) .bytes))
 
--- the claim: every row holds; P2 leaves these bytes of its leaf, and with EE on these; P6 and P7 read these addresses, the last within the pool and just after it;
+abbrev pub firstBytes : Row → List ℕ
+firstBytes r = take 8 (memory r)
+
+-- the claim: every row holds; P2, and the write over eight different bytes, leave these bytes of the leaf, and with EE on these; the other way round
+-- means with EE on P1's own bytes, and with EE off these; P6 and P7 read these addresses, the last within the pool and just after it;
 -- a memory of so many bytes is accepted, and of one more refused
 unfoldable pub Worked : Type 0
 Worked =
     All rows
-    × (leafBytes base ≡ 0x43 ∷ 0x57 ∷ 0x00 ∷ 0x80 ∷ 0x00 ∷ 0x00 ∷ 0x08 ∷ 0x00 ∷ [])
-    × (leafBytes bigEndian ≡ 0x00 ∷ 0x08 ∷ 0x00 ∷ 0x00 ∷ 0x80 ∷ 0x00 ∷ 0x57 ∷ 0x43 ∷ [])
+    × (leafBytes (p2 base) ≡ 0x43 ∷ 0x57 ∷ 0x00 ∷ 0x80 ∷ 0x00 ∷ 0x00 ∷ 0x08 ∷ 0x00 ∷ [])
+    × (leafBytes (p2 bigEndian) ≡ 0x00 ∷ 0x08 ∷ 0x00 ∷ 0x00 ∷ 0x80 ∷ 0x00 ∷ 0x57 ∷ 0x43 ∷ [])
+    × (leafBytes (eightBytes base) ≡ 0x43 ∷ 0x57 ∷ 0x11 ∷ 0x22 ∷ 0x33 ∷ 0x44 ∷ 0x08 ∷ 0x99 ∷ [])
+    × (leafBytes (eightBytes bigEndian) ≡ 0x99 ∷ 0x08 ∷ 0x44 ∷ 0x33 ∷ 0x22 ∷ 0x11 ∷ 0x57 ∷ 0x43 ∷ [])
+    × (firstBytes (otherWay bigEndian) ≡ 0x03 ∷ 0x10 ∷ 0x00 ∷ 0x40 ∷ 0x00 ∷ 0x00 ∷ 0x00 ∷ 0x00 ∷ [])
+    × (firstBytes (otherWay base) ≡ 0x00 ∷ 0x00 ∷ 0x00 ∷ 0x00 ∷ 0x40 ∷ 0x00 ∷ 0x10 ∷ 0x03 ∷ [])
     × (visitedIn (withThird 0x4000F003) ≡ 0x40000000 ∷ 0x40001000 ∷ 0x40002010 ∷ 0x4000F018 ∷ [])
     × (visitedIn (withThird 0x40010003) ≡ 0x40000000 ∷ 0x40001000 ∷ 0x40002010 ∷ 0x40010018 ∷ [])
     × (walkCheck 16777216 base (usual Read) ≡ Accepted)

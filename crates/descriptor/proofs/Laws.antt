@@ -11,7 +11,7 @@ use mathlib.Core.Bool.{Bool, true, false, not}
 use lib.Dec.{eqb, ltb}
 use borrow.Author.Tests.{eqb-true, eqb-false, ltb-true, ltb-false}
 use Rattle.descriptor.specs.Bits.{pick}
-use Rattle.descriptor.specs.Bytes.{number, digits, ordered, valueOf, bytesOf, desc, put}
+use Rattle.descriptor.specs.Bytes.{number, digits, inOrder, valueOf, bytesOf, desc, put}
 
 -- ---- what the code reads
 
@@ -47,21 +47,21 @@ unfolding digits
 length-digits zero v = refl
 length-digits (suc n) v = ap suc (length-digits n (v / 256))
 
--- ---- either order: all that follows needs of it is that twice is not at all, and as many bytes
+-- ---- either order: all laws need of it, but for those of the other order, is that twice is not at all, and as many bytes (and, in Numbers, that bytes stay bytes)
 
-ordered-twice : (ee : Bool) (l : List ℕ) → ordered ee (ordered ee l) ≡ l
-unfolding ordered
-ordered-twice true l = reverse-reverse l
-ordered-twice false l = refl
+in-order-twice : (ee : Bool) (l : List ℕ) → inOrder ee (inOrder ee l) ≡ l
+unfolding inOrder
+in-order-twice true l = reverse-reverse l
+in-order-twice false l = refl
 
-pub length-ordered : (ee : Bool) (l : List ℕ) → length (ordered ee l) ≡ length l
-unfolding ordered
-length-ordered true l = length-reverse l
-length-ordered false l = refl
+pub length-in-order : (ee : Bool) (l : List ℕ) → length (inOrder ee l) ≡ length l
+unfolding inOrder
+length-in-order true l = length-reverse l
+length-in-order false l = refl
 
 pub length-bytes : (ee : Bool) (v : ℕ) → length (bytesOf ee v) ≡ 8
 unfolding bytesOf
-length-bytes ee v = length-ordered ee (digits 8 v) ∙ length-digits 8 v
+length-bytes ee v = length-in-order ee (digits 8 v) ∙ length-digits 8 v
 
 pub written : (ee : Bool) (l : List ℕ) (at v : ℕ) → at + 8 ≤ length l → run l at 0 (bytesOf ee v) ≡ put ee l at v
 unfolding put
@@ -77,7 +77,7 @@ number-digits v h = omega arith
 -- a descriptor comes back from its bytes
 pub value-bytes : (ee : Bool) (v : ℕ) → v < 2 ^ 64 → valueOf ee (bytesOf ee v) ≡ v
 unfolding valueOf bytesOf
-value-bytes ee v h = rw (ordered-twice ee (digits 8 v)) (number-digits v h)
+value-bytes ee v h = rw (in-order-twice ee (digits 8 v)) (number-digits v h)
 
 module _ (ee : Bool) (l : List ℕ) (i v : ℕ) (fits : i + 8 ≤ length l) where
   head-length : length (take i l) ≡ i
@@ -150,12 +150,12 @@ desc-put-aligned ee l i v j ai aj hi hj hv = by (eqb i j) refl
 -- ---- the other order
 
 pub value-other : (ee : Bool) (l : List ℕ) → valueOf (not ee) (reverse l) ≡ valueOf ee l
-unfolding valueOf ordered
+unfolding valueOf inOrder
 value-other true l = refl
 value-other false l = ap number (reverse-reverse l)
 
 pub bytes-other : (ee : Bool) (v : ℕ) → bytesOf (not ee) v ≡ reverse (bytesOf ee v)
-unfolding bytesOf ordered
+unfolding bytesOf inOrder
 bytes-other true v = sym (reverse-reverse (digits 8 v))
 bytes-other false v = refl
 

@@ -1,4 +1,4 @@
--- Bytes stay bytes, and a descriptor of bytes is below 2 ^ 64.
+-- Bytes stay bytes, a descriptor of bytes is below 2 ^ 64, and bytes and numbers come back from each other.
 use Prim.Native.Nat.{ℕ, zero, suc, _+_, _*_, _/_, _%_, _^_, _<_, _≤_, zero-le}
 use mathlib.Core.Bool.{Bool, true, false}
 use mathlib.Core.Path.{_≡_, refl, sym, ap, _∙_}
@@ -10,8 +10,8 @@ use lib.Dec.{lit<}
 use lib.ListN.{length, take, drop, length-take}
 use lib.Seq.{getD-drop}
 use Rattle.descriptor.specs.Bits.{field}
-use Rattle.descriptor.specs.Bytes.{Bytes, number, digits, ordered, valueOf, bytesOf, desc, put}
-use Rattle.descriptor.proofs.Laws.{length-ordered, length-bytes}
+use Rattle.descriptor.specs.Bytes.{Bytes, number, digits, inOrder, valueOf, bytesOf, desc, put}
+use Rattle.descriptor.proofs.Laws.{length-in-order, length-bytes}
 
 -- ---- parts of bytes are bytes
 
@@ -43,14 +43,14 @@ bytes-reverse : (l : List ℕ) → Bytes l → Bytes (reverse l)
 bytes-reverse [] h = h
 bytes-reverse (b ∷ l) h = rw (reverse-cons b l) (bytes-append (reverse l) (b ∷ []) (bytes-reverse l (λ i. h (suc i))) (bytes-one b (h 0)))
 
-bytes-ordered : (ee : Bool) (l : List ℕ) → Bytes l → Bytes (ordered ee l)
-unfolding ordered
-bytes-ordered true l h = bytes-reverse l h
-bytes-ordered false l h = h
+bytes-in-order : (ee : Bool) (l : List ℕ) → Bytes l → Bytes (inOrder ee l)
+unfolding inOrder
+bytes-in-order true l h = bytes-reverse l h
+bytes-in-order false l h = h
 
 pub bytes-bytes : (ee : Bool) (v : ℕ) → Bytes (bytesOf ee v)
 unfolding bytesOf
-bytes-bytes ee v = bytes-ordered ee (digits 8 v) (bytes-digits 8 v)
+bytes-bytes ee v = bytes-in-order ee (digits 8 v) (bytes-digits 8 v)
 
 pub bytes-put : (ee : Bool) (m : List ℕ) (i v : ℕ) → Bytes m → Bytes (put ee m i v)
 unfolding put
@@ -73,7 +73,7 @@ pub desc-small : (ee : Bool) (m : List ℕ) (i : ℕ) → Bytes m → desc ee m 
 unfolding desc valueOf
 desc-small ee m i h =
     let eight = take 8 (drop i m) in
-    number-small 8 (ordered ee eight) (rw (length-ordered ee eight, length-take 8 (drop i m)) (omega arith)) (bytes-ordered ee eight (bytes-take (drop i m) 8 (bytes-drop m i h)))
+    number-small 8 (inOrder ee eight) (rw (length-in-order ee eight, length-take 8 (drop i m)) (omega arith)) (bytes-in-order ee eight (bytes-take (drop i m) 8 (bytes-drop m i h)))
 
 -- ---- the bytes of a number as fields
 
@@ -102,13 +102,13 @@ digits-number (b ∷ l) h =
     let high : (b + 256 * number l) / 256 ≡ number l = omega arith in
     rw (low, high) (ap (λ (r : List ℕ). b ∷ r) (digits-number l (λ i. h (suc i))))
 
--- 8 bytes read the lowest first, and taken for that number's bytes: read in either order it is the same value
+-- 8 bytes read the lowest first, and that number's bytes taken in an order: the value of the 8 bytes in that order
 pub value-again : (ee : Bool) (l : List ℕ) → length l ≡ 8 → Bytes l → valueOf ee (digits 8 (number l)) ≡ valueOf ee l
 value-again ee l e h = ap (valueOf ee) (rw e at (digits-number l h))
 
--- a value's bytes in either order, as the bytes of a number, the lowest first
+-- and the other way: the bytes, the lowest first, of the number that stands for a value in an order are the value's bytes in that order
 pub bytes-again : (ee : Bool) (v : ℕ) → digits 8 (valueOf ee (digits 8 v)) ≡ bytesOf ee v
 unfolding valueOf bytesOf
 bytes-again ee v =
-    let e : length (ordered ee (digits 8 v)) ≡ 8 = length-bytes ee v in
-    rw e at (digits-number (ordered ee (digits 8 v)) (bytes-ordered ee (digits 8 v) (bytes-digits 8 v)))
+    let e : length (inOrder ee (digits 8 v)) ≡ 8 = length-bytes ee v in
+    rw e at (digits-number (inOrder ee (digits 8 v)) (bytes-in-order ee (digits 8 v) (bytes-digits 8 v)))

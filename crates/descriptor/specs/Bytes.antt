@@ -20,15 +20,15 @@ digits zero v = []
 digits (suc n) v = v % 256 ∷ digits n (v / 256)
 
 -- the one place that fixes the byte order: bytes as they are, or with EE the other way round; so the lowest comes first, or last
-unfoldable pub ordered : Bool → List ℕ → List ℕ
-ordered ee bytes = pick ee (reverse bytes) bytes
+unfoldable pub inOrder : Bool → List ℕ → List ℕ
+inOrder ee bytes = pick ee (reverse bytes) bytes
 
 -- a descriptor from its 8 bytes, and its 8 bytes
 unfoldable pub valueOf : Bool → List ℕ → ℕ
-valueOf ee bytes = number (ordered ee bytes)
+valueOf ee bytes = number (inOrder ee bytes)
 
 unfoldable pub bytesOf : Bool → ℕ → List ℕ
-bytesOf ee v = ordered ee (digits 8 v)
+bytesOf ee v = inOrder ee (digits 8 v)
 
 -- the descriptor at offset i of a memory
 unfoldable pub desc : Bool → List ℕ → ℕ → ℕ

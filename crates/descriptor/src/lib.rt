@@ -36,8 +36,8 @@ fn swap_bytes(v: u64) -> u64
     )
 }
 
-// From little-endian to the order of ee, and back: one swap and one choice for both, no second read.
-fn ordered(v: u64, ee: bool) -> u64
+// The number whose bytes, the lowest first, are those of v in the order of ee. It undoes itself, so load and store share it.
+fn in_order(v: u64, ee: bool) -> u64
     ensures { λ r. ⌜ r ≡ valueOf ee (digits 8 v) ⌝ }
 {
     select(ee, swap_bytes(v), v)
@@ -58,7 +58,7 @@ pub fn load(memory: &[u8], at: usize, ee: bool) -> u64
         memory[at + 6],
         memory[at + 7],
     );
-    ordered(v, ee)
+    in_order(v, ee)
 }
 
 // Writes a descriptor at an offset, big-endian where ee holds, and no other byte.
@@ -66,7 +66,7 @@ pub fn store(memory: &mut [u8], at: usize, value: u64, ee: bool)
     requires { ⌜ at + 8 ≤ length (now memory) ⌝ }
     ensures { λ _. ⌜ now (memory .exit) ≡ put ee (now (memory .entry)) at value ⌝ }
 {
-    let v = ordered(value, ee);
+    let v = in_order(value, ee);
     let v1 = v / 256;
     let v2 = v1 / 256;
     let v3 = v2 / 256;

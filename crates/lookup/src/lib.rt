@@ -5,7 +5,7 @@ ghost use Rattle.vmsa.specs.Limits.{addressLimit, tszLeast, tszMost, Sized};
 ghost use Rattle.vmsa.specs.Fields.{tableBits, sumCount};
 ghost use Rattle.geometry.specs.Geometry.{levelOf, Paged};
 ghost use Rattle.lookup.specs.Trace.{fault, ended, underHpd, shown};
-ghost use Rattle.lookup.specs.Steps.{isTable, decoded, Sound, fetched, context, entryAt, followed, descend, upper as upperAt, rangeOf, outside as outsideAt, locate as locateAt};
+ghost use Rattle.lookup.specs.Steps.{isTable, decoded, Sound, fetched, poolReader, context, entryAt, followed, descend, upper as upperAt, rangeOf, outside as outsideAt, locate as locateAt};
 ghost use Rattle.lookup.specs.Packing.{kindNumber, kindNumbered, joined, packed, Packs};
 use vmsa::FaultKind;
 use vmsa::Leaf;
@@ -174,7 +174,8 @@ fn table_bits(v: u64) -> u64
     descriptor::field(v, vmsa::TABLE_START, vmsa::TABLE_WIDTH)
 }
 
-// Reads the entry of a table, and follows it. What changes from level to level comes first, in registers; docs/PERFORMANCE.md has the reason. met is the descriptors of the tables on the way, or-ed: its bits 62 to 59 are their sum, the others have no say.
+// Reads the entry of a table, and follows it. met is the descriptors of the tables on the way, or-ed: its bits 62 to 59 are their sum, the others have no say.
+// The order of the arguments is for speed: the last two pass through memory, where they are used in place.
 fn enter(
     pool: &[u8],
     table: PhysAddr,
@@ -277,7 +278,7 @@ pub fn outside(t: u8, a: VirtAddr) -> bool
 // Steps 1 to 5.
 pub fn locate(pool: &[u8], r: Regime, a: VirtAddr) -> Located
     requires { ⌜ Sized r ⌝ }
-    ensures { λ l. ⌜ l ≡ shown 0 (locateAt r (fetched (r .ee) (now (pool .entry)) (r .pool .address .0)) (a .0)) ⌝ }
+    ensures { λ l. ⌜ l ≡ shown 0 (locateAt r (poolReader r (now (pool .entry))) (a .0)) ⌝ }
 {
     let range = range_of(r, a);
     let t = range.tsz;

@@ -36,7 +36,7 @@ use Rattle.lookup.proofs.Readers.{AlikeWords, unreachable, values, AlikeEnds, f
 use Rattle.vmsa.proofs.Tables.{set-bits, clear-bits}
 use Rattle.decision.specs.Decision.{updated}
 use Rattle.walk.specs.Walk.{poolBytes, traced}
-use Rattle.walk.proofs.Parts.{with-put, part-with, length-part}
+use Rattle.walk.proofs.Parts.{part-put, length-part}
 use Rattle.walk.proofs.Ends.{Found, found, aligned-zero}
 use Rattle.rules.proofs.Updates.{updated-small}
 use Rattle.tlb.specs.Walker.{Spot, lost, found as foundAt, putWord}
@@ -147,17 +147,6 @@ module _ (ee : Bool) (pool : List ℕ) (base i w : ℕ) (b8 : base % 8 ≡ 0) (i
 
 -- ---- every lookup after an update
 
--- the pool's bytes after the descriptor at offset i of the pool was updated
-pool-after : (r : Regime) (m : List ℕ) (i w : ℕ) → r .pool .start + r .pool .length ≤ length m → i + 8 ≤ r .pool .length
-    → poolBytes (r .pool) (put (r .ee) m (r .pool .start + i) w) ≡ put (r .ee) (poolBytes (r .pool) m) i w
-pool-after r m i w h k =
-    let s = r .pool .start in
-    let n = r .pool .length in
-    let pool = poolBytes (r .pool) m in
-    let l : length pool ≡ n = length-part m s n h in
-    ap (λ (x : List ℕ). take n (drop s x)) (sym (with-put (r .ee) m s n i w true h k))
-    ∙ part-with m (put (r .ee) pool i w) s n h (length-put (r .ee) pool i w (rw l k) ∙ l)
-
 -- how two traces end, in the memory before and after: the leaf at the updated descriptor has the new value
 module _ (r : Regime) (pool : List ℕ) (i w : ℕ) (b8 : r .pool .address .0 % 8 ≡ 0) (i8 : i % 8 ≡ 0) (fits : i + 8 ≤ length pool) (small : w < 2 ^ 64)
     (unseen : Alike (desc (r .ee) pool i) w) (u : usable r ≡ true) (x : ℕ) where
@@ -217,7 +206,7 @@ marked-where r m s q f d {u = u} y p =
     let small : v < 2 ^ 64 = updated-small (u .value) f d (rw (← value) (desc-small (r .ee) pool i bytes)) in
     let unseen : Alike (desc (r .ee) pool i) v = rw value (alike-updated f d (u .value)) in
     let mem : poolBytes (r .pool) (putWord ours r m (offsetOf r (y .address)) v) ≡ put (r .ee) pool i v =
-    ap (poolBytes (r .pool)) (put-is r m (offsetOf r (y .address)) v) ∙ pool-after r m i v fits (rw (← l) room) in
+    ap (poolBytes (r .pool)) (put-is r m (offsetOf r (y .address)) v) ∙ part-put (r .ee) m (r .pool .start) (r .pool .length) i v fits (rw (← l) room) in
     rw (y .regime, mem) (spot-after r pool i v b8 i8 room small unseen (y .regime) (p * pageSize pageBits))
 
 marked-by : (r : Regime) (m : List ℕ) → Admitted ours r m → (q : ℕ) (f d : Bool) {at : ℕ} {u : Leaf} {n : ℕ} → located r m q ≡ foundAt at u n → (p : ℕ)

@@ -33,36 +33,36 @@ use Rattle.lookup.proofs.Readers.{AlikeWords, unreachable, values, AlikeEnds, f
 use Rattle.permission.specs.Permission.{attributeOf, writable, clean, mayWrite, mayFetch, permitted, flagFails, alignmentFails, permissionFails}
 use Rattle.decision.specs.Decision.{flagDue, dirtyDue, cacheable, passing, decision}
 use Rattle.walk.specs.Walk.{Outcome, poolBytes, withPoolBytes, applied, concluded, traced, walkAlong, walkPool, checked, walk}
-use Rattle.walk.proofs.Parts.{part-with, with-own}
+use Rattle.walk.proofs.Parts.{part-with, with-with, with-own}
 use Rattle.walk.proofs.Ends.{found, aligned-zero, ready}
-use Rattle.rules.specs.Orders.{otherOrder, turned, turnedPool, turnedOutcome}
+use Rattle.rules.specs.Orders.{otherOrder, swapped, swappedPool, swappedOutcome}
 use Rattle.rules.proofs.Walks.{pool-long, pool-length}
 
--- ---- descriptors turned, in a list
+-- ---- descriptors swapped, in a list
 
-pub turned-length : (n : ℕ) (l : List ℕ) → length (turned n l) ≡ length l
-unfolding turned
-turned-length zero l = refl
-turned-length (suc n) l =
-    length-append (reverse (take 8 l)) (turned n (drop 8 l))
-    ∙ rw (length-reverse (take 8 l), turned-length n (drop 8 l)) (sym (length-append (take 8 l) (drop 8 l)) ∙ ap length (take-append-drop 8 l))
+pub swapped-length : (n : ℕ) (l : List ℕ) → length (swapped n l) ≡ length l
+unfolding swapped
+swapped-length zero l = refl
+swapped-length (suc n) l =
+    length-append (reverse (take 8 l)) (swapped n (drop 8 l))
+    ∙ rw (length-reverse (take 8 l), swapped-length n (drop 8 l)) (sym (length-append (take 8 l) (drop 8 l)) ∙ ap length (take-append-drop 8 l))
 
--- the first of them, turned
+-- the first of them, swapped
 first-length : (l : List ℕ) → 8 ≤ length l → length (reverse (take 8 l)) ≡ 8
 first-length l h = length-reverse (take 8 l) ∙ length-take-le 8 l h
 
 -- descriptor q of n
-turned-at : (n q : ℕ) (l : List ℕ) → q < n → 8 * q + 8 ≤ length l → take 8 (drop (8 * q) (turned n l)) ≡ reverse (take 8 (drop (8 * q) l))
-unfolding turned
-turned-at zero q l h k = absurd (omega arith)
-turned-at (suc n) zero l h k = take-at (reverse (take 8 l)) (turned n (drop 8 l)) 8 (first-length l k)
-turned-at (suc n) (suc q) l h k =
+swapped-at : (n q : ℕ) (l : List ℕ) → q < n → 8 * q + 8 ≤ length l → take 8 (drop (8 * q) (swapped n l)) ≡ reverse (take 8 (drop (8 * q) l))
+unfolding swapped
+swapped-at zero q l h k = absurd (omega arith)
+swapped-at (suc n) zero l h k = take-at (reverse (take 8 l)) (swapped n (drop 8 l)) 8 (first-length l k)
+swapped-at (suc n) (suc q) l h k =
     let x = reverse (take 8 l) in
     let e : 8 * suc q ≡ 8 + 8 * q = omega arith in
     let long : 8 * q + 8 ≤ length (drop 8 l) = rw (length-drop 8 l) (omega arith) in
-    let skip : drop (8 + 8 * q) (x ++ turned n (drop 8 l)) ≡ drop (8 * q) (turned n (drop 8 l)) =
-    rw (first-length l (omega arith)) at (drop-append-add x (turned n (drop 8 l)) (8 * q)) in
-    rw (e, skip, ← drop-drop (8 * q) 8 l) (turned-at n q (drop 8 l) (omega arith) long)
+    let skip : drop (8 + 8 * q) (x ++ swapped n (drop 8 l)) ≡ drop (8 * q) (swapped n (drop 8 l)) =
+    rw (first-length l (omega arith)) at (drop-append-add x (swapped n (drop 8 l)) (8 * q)) in
+    rw (e, skip, ← drop-drop (8 * q) 8 l) (swapped-at n q (drop 8 l) (omega arith) long)
 
 -- the first of a list stored, and one after it
 put-first : (ee : Bool) (x t : List ℕ) (v : ℕ) → length x ≡ 8 → put ee (x ++ t) 0 v ≡ bytesOf ee v ++ t
@@ -74,32 +74,32 @@ put-later ee x t q v e =
     let s : 8 * suc q ≡ length x + 8 * q = omega (arith, e) in
     rw s (put-right ee x t (8 * q) v)
 
-turned-cons : (n : ℕ) (x t : List ℕ) → length x ≡ 8 → turned (suc n) (x ++ t) ≡ reverse x ++ turned n t
-unfolding turned
-turned-cons n x t e = rw (take-at x t 8 e, drop-at x t 8 e)
+swapped-cons : (n : ℕ) (x t : List ℕ) → length x ≡ 8 → swapped (suc n) (x ++ t) ≡ reverse x ++ swapped n t
+unfolding swapped
+swapped-cons n x t e = rw (take-at x t 8 e, drop-at x t 8 e)
 
 -- the same descriptor stored before turning, and after it in the other order
-turned-put : (ee : Bool) (n q : ℕ) (l : List ℕ) (v : ℕ) → q < n → 8 * q + 8 ≤ length l → put (not ee) (turned n l) (8 * q) v ≡ turned n (put ee l (8 * q) v)
-turned-put ee zero q l v h k = absurd (omega arith)
-turned-put ee (suc n) q l v h k =
+swapped-put : (ee : Bool) (n q : ℕ) (l : List ℕ) (v : ℕ) → q < n → 8 * q + 8 ≤ length l → put (not ee) (swapped n l) (8 * q) v ≡ swapped n (put ee l (8 * q) v)
+swapped-put ee zero q l v h k = absurd (omega arith)
+swapped-put ee (suc n) q l v h k =
     let x = take 8 l in
     let t = drop 8 l in
     let e : length x ≡ 8 = length-take-le 8 l (omega arith) in
     let f : length (reverse x) ≡ 8 = length-reverse x ∙ e in
-    rw (← take-append-drop 8 l, turned-cons n x t e) (by x t e f q h (rw (length-drop 8 l) (omega arith)) (λ j i. turned-put ee n j t v i))
+    rw (← take-append-drop 8 l, swapped-cons n x t e) (by x t e f q h (rw (length-drop 8 l) (omega arith)) (λ j i. swapped-put ee n j t v i))
   where
     by : (x t : List ℕ) → length x ≡ 8 → length (reverse x) ≡ 8 → (q : ℕ) → q < suc n → 8 * q ≤ length t
-        → ((j : ℕ) → j < n → 8 * j + 8 ≤ length t → put (not ee) (turned n t) (8 * j) v ≡ turned n (put ee t (8 * j) v))
-        → put (not ee) (reverse x ++ turned n t) (8 * q) v ≡ turned (suc n) (put ee (x ++ t) (8 * q) v)
+        → ((j : ℕ) → j < n → 8 * j + 8 ≤ length t → put (not ee) (swapped n t) (8 * j) v ≡ swapped n (put ee t (8 * j) v))
+        → put (not ee) (reverse x ++ swapped n t) (8 * q) v ≡ swapped (suc n) (put ee (x ++ t) (8 * q) v)
     by x t e f zero h k below =
-        put-first (not ee) (reverse x) (turned n t) v f
-        ∙ rw (bytes-other ee v) (sym (turned-cons n (bytesOf ee v) t (length-bytes ee v)))
-        ∙ ap (turned (suc n)) (sym (put-first ee x t v e))
+        put-first (not ee) (reverse x) (swapped n t) v f
+        ∙ rw (bytes-other ee v) (sym (swapped-cons n (bytesOf ee v) t (length-bytes ee v)))
+        ∙ ap (swapped (suc n)) (sym (put-first ee x t v e))
     by x t e f (suc q) h k below =
-        put-later (not ee) (reverse x) (turned n t) q v f
+        put-later (not ee) (reverse x) (swapped n t) q v f
         ∙ ap (λ (y : List ℕ). reverse x ++ y) (below q (omega arith) (omega arith))
-        ∙ sym (turned-cons n x (put ee t (8 * q) v) e)
-        ∙ ap (turned (suc n)) (sym (put-later ee x t q v e))
+        ∙ sym (swapped-cons n x (put ee t (8 * q) v) e)
+        ∙ ap (swapped (suc n)) (sym (put-later ee x t q v e))
 
 -- ---- the two readers, and the two traces
 
@@ -113,20 +113,20 @@ module _ (ee : Bool) (n : ℕ) (l : List ℕ) (long : length l ≡ 8 * n) (j : �
   below : nth < n
   below = omega arith
 
-  desc-other : desc (not ee) (turned n l) j ≡ desc ee l j
+  desc-other : desc (not ee) (swapped n l) j ≡ desc ee l j
   unfolding desc
-  desc-other = rw whole (ap (valueOf (not ee)) (turned-at n nth l below (rw (← whole) fits)) ∙ value-other ee (take 8 (drop (8 * nth) l)))
+  desc-other = rw whole (ap (valueOf (not ee)) (swapped-at n nth l below (rw (← whole) fits)) ∙ value-other ee (take 8 (drop (8 * nth) l)))
 
-  put-other : (v : ℕ) → put (not ee) (turned n l) j v ≡ turned n (put ee l j v)
-  put-other v = rw whole (turned-put ee n nth l v below (rw (← whole) fits))
+  put-other : (v : ℕ) → put (not ee) (swapped n l) j v ≡ swapped n (put ee l j v)
+  put-other v = rw whole (swapped-put ee n nth l v below (rw (← whole) fits))
 
 words-other : (ee : Bool) (n : ℕ) (l : List ℕ) (base : ℕ) → length l ≡ 8 * n → base % 8 ≡ 0 → (a : ℕ) → a % 8 ≡ 0
-    → AlikeWords _≡_ (fetched (not ee) (turned n l) base a) (fetched ee l base a)
+    → AlikeWords _≡_ (fetched (not ee) (swapped n l) base a) (fetched ee l base a)
 unfolding fetched
-words-other ee n l base long b8 a a8 = rw (turned-length n l) (by (leb base a && leb (a + 8) (base + length l)) refl)
+words-other ee n l base long b8 a a8 = rw (swapped-length n l) (by (leb base a && leb (a + 8) (base + length l)) refl)
   where
     by : (b : Bool) → (leb base a && leb (a + 8) (base + length l)) ≡ b
-        → AlikeWords _≡_ (pick b (Value (desc (not ee) (turned n l) (a - base))) Unreachable) (pick b (Value (desc ee l (a - base))) Unreachable)
+        → AlikeWords _≡_ (pick b (Value (desc (not ee) (swapped n l) (a - base))) Unreachable) (pick b (Value (desc ee l (a - base))) Unreachable)
     by true e =
         let t = and-true (leb base a) (leb (a + 8) (base + length l)) e in
         let g : base ≤ a = leb-true base a (t .0) in
@@ -159,15 +159,15 @@ check-other n r a = refl
 
 module _ (r : Regime) (a : Access) (pool : List ℕ) (n : ℕ) (long : length pool ≡ 8 * n) (b8 : r .pool .address .0 % 8 ≡ 0)
     (sized : Sized r) (root : rangeOf r (a .address .0) .root .0 % 8 ≡ 0) where
-  trace-other : traced (otherOrder r) (turned n pool) (a .address .0) ≡ traced r pool (a .address .0)
+  trace-other : traced (otherOrder r) (swapped n pool) (a .address .0) ≡ traced r pool (a .address .0)
   unfolding traced
   trace-other =
-      locate-other r (poolReader (otherOrder r) (turned n pool)) (a .address .0)
+      locate-other r (poolReader (otherOrder r) (swapped n pool)) (a .address .0)
       ∙ same-trace (locate-alike _≡_ r (a .address .0) (λ left v w k. ap (decoded _ _ left) (sym k)) (λ v w k. ap tableBits (sym k))
-      (poolReader (otherOrder r) (turned n pool)) (poolReader r pool) (words-other (r .ee) n pool (r .pool .address .0) long b8) root)
+      (poolReader (otherOrder r) (swapped n pool)) (poolReader r pool) (words-other (r .ee) n pool (r .pool .address .0) long b8) root)
 
   end-other : (k : ℕ) (e : End) → traced r pool (a .address .0) .end ≡ e
-      → _≡_ {A = Outcome} (concluded (otherOrder r) a (turned n pool) k e) (record { result = concluded r a pool k e .result; bytes = turned n (concluded r a pool k e .bytes) })
+      → _≡_ {A = Outcome} (concluded (otherOrder r) a (swapped n pool) k e) (record { result = concluded r a pool k e .result; bytes = swapped n (concluded r a pool k e .bytes) })
   end-other k (fault kind level) q = refl
   end-other k (leaf at l) q =
       let f = found r pool (a .address .0) at l sized root q in
@@ -177,35 +177,26 @@ module _ (r : Regime) (a : Access) (pool : List ℕ) (n : ℕ) (long : length po
       let a8 : at % 8 ≡ 0 = f .reached .aligned in
       rw (decision-other r a l k) (ap (λ (x : List ℕ). record { result = d .result; bytes = x }) (by (d .update) (put (r .ee) pool j (d .value)) (put-other (r .ee) n pool long j (omega arith) (omega (arith, i .least, i .most)) (d .value))))
     where
-      by : (b : Bool) {x : List ℕ} (y : List ℕ) → x ≡ turned n y → pick b x (turned n pool) ≡ turned n (pick b y pool)
+      by : (b : Bool) {x : List ℕ} (y : List ℕ) → x ≡ swapped n y → pick b x (swapped n pool) ≡ swapped n (pick b y pool)
       by true y e = e
       by false y e = refl
 
-  pool-other : _≡_ {A = Outcome} (walkPool (otherOrder r) a (turned n pool)) (record { result = walkPool r a pool .result; bytes = turned n (walkPool r a pool .bytes) })
+  pool-other : _≡_ {A = Outcome} (walkPool (otherOrder r) a (swapped n pool)) (record { result = walkPool r a pool .result; bytes = swapped n (walkPool r a pool .bytes) })
   unfolding walkPool
   pool-other = rw trace-other (end-other (length (traced r pool (a .address .0) .visited)) (traced r pool (a .address .0) .end) refl)
 
--- ---- a part of a memory put in twice
-
-with-with : (m x y : List ℕ) (s n : ℕ) → s + n ≤ length m → length x ≡ n → take s (take s m ++ x ++ drop (s + n) m) ++ y ++ drop (s + n) (take s m ++ x ++ drop (s + n) m) ≡ take s m ++ y ++ drop (s + n) m
-with-with m x y s n h e =
-    let front : length (take s m) ≡ s = length-take-le s m (omega arith) in
-    let long : length (take s m ++ x) ≡ s + n = length-append (take s m) x ∙ rw (front, e) in
-    let first : take s (take s m ++ x ++ drop (s + n) m) ≡ take s m = rw append-assoc (take-at (take s m) (x ++ drop (s + n) m) s front) in
-    rw (first, drop-at (take s m ++ x) (drop (s + n) m) (s + n) long)
+-- ---- the walk
 
 same-length : (a b x c : List ℕ) → length x ≡ length b → length (a ++ x ++ c) ≡ length (a ++ b ++ c)
 same-length a b x c e = simp length-append (rw e)
 
--- ---- the walk
-
 module _ (r : Regime) (a : Access) (m : List ℕ) where
   -- as many bytes, wherever the pool lies
-  pub turned-pool-length : length (turnedPool (r .pool) m) ≡ length m
-  turned-pool-length =
+  pub swapped-pool-length : length (swappedPool (r .pool) m) ≡ length m
+  swapped-pool-length =
       let s = r .pool .start in
       let n = r .pool .length in
-      same-length (take s m) (poolBytes (r .pool) m) (turned (n / 8) (poolBytes (r .pool) m)) (drop (s + n) m) (turned-length (n / 8) (poolBytes (r .pool) m)) ∙ ap length (with-own m s n)
+      same-length (take s m) (poolBytes (r .pool) m) (swapped (n / 8) (poolBytes (r .pool) m)) (drop (s + n) m) (swapped-length (n / 8) (poolBytes (r .pool) m)) ∙ ap length (with-own m s n)
 
   module _ (c : walkCheck (length m) r a ≡ Accepted) where
     abbrev start : ℕ
@@ -217,7 +208,7 @@ module _ (r : Regime) (a : Access) (m : List ℕ) where
     abbrev pool : List ℕ
     pool = poolBytes (r .pool) m
 
-    taken-other : checked (walkPool (otherOrder r) a) (r .pool) (turnedPool (r .pool) m) Accepted ≡ turnedOutcome (r .pool) (checked (walkPool r a) (r .pool) m Accepted)
+    taken-other : checked (walkPool (otherOrder r) a) (r .pool) (swappedPool (r .pool) m) Accepted ≡ swappedOutcome (r .pool) (checked (walkPool r a) (r .pool) m Accepted)
     taken-other =
         let g = walk-accepted (length m) r a c .0 in
         let h = ready (length m) r a c in
@@ -228,20 +219,20 @@ module _ (r : Regime) (a : Access) (m : List ℕ) where
         let n8 : length pool ≡ 8 * count = omega arith in
         let w = walkPool r a pool in
         let after : length (w .bytes) ≡ r .pool .length = pool-length r a m c in
-        let same : length (turned count pool) ≡ r .pool .length = turned-length count pool ∙ long in
+        let same : length (swapped count pool) ≡ r .pool .length = swapped-length count pool ∙ long in
         rw (
-          part-with m (turned count pool) start (r .pool .length) fits same,
+          part-with m (swapped count pool) start (r .pool .length) fits same,
           pool-other r a pool count n8 b8 (h .sized) (h .root),
-          with-with m (turned count pool) (turned count (w .bytes)) start (r .pool .length) fits same,
+          with-with m (swapped count pool) start (r .pool .length) fits same (swapped count (w .bytes)),
           part-with m (w .bytes) start (r .pool .length) fits after,
-          with-with m (w .bytes) (turned count (w .bytes)) start (r .pool .length) fits after,
+          with-with m (w .bytes) start (r .pool .length) fits after (swapped count (w .bytes)),
         )
 
-  pub other-order : walk (otherOrder r) a (turnedPool (r .pool) m) ≡ turnedOutcome (r .pool) (walk r a m)
+  pub other-order : walk (otherOrder r) a (swappedPool (r .pool) m) ≡ swappedOutcome (r .pool) (walk r a m)
   unfolding walk
-  other-order = rw (turned-pool-length, check-other (length m) r a) (by (walkCheck (length m) r a) refl)
+  other-order = rw (swapped-pool-length, check-other (length m) r a) (by (walkCheck (length m) r a) refl)
     where
       by : (x : Checked) → walkCheck (length m) r a ≡ x
-          → checked (walkPool (otherOrder r) a) (r .pool) (turnedPool (r .pool) m) x ≡ turnedOutcome (r .pool) (checked (walkPool r a) (r .pool) m x)
+          → checked (walkPool (otherOrder r) a) (r .pool) (swappedPool (r .pool) m) x ≡ swappedOutcome (r .pool) (checked (walkPool r a) (r .pool) m x)
       by (Refused x) e = refl
       by Accepted e = taken-other e

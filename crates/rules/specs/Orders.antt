@@ -13,13 +13,14 @@ abbrev pub otherOrder : Regime → Regime
 otherOrder r = withEe r (not (r .ee))
 
 -- n descriptors one after another, the 8 bytes of each the other way round
-unfoldable pub turned : ℕ → List ℕ → List ℕ
-turned zero bytes = bytes
-turned (suc n) bytes = reverse (take 8 bytes) ++ turned n (drop 8 bytes)
+unfoldable pub swapped : ℕ → List ℕ → List ℕ
+swapped zero bytes = bytes
+swapped (suc n) bytes = reverse (take 8 bytes) ++ swapped n (drop 8 bytes)
 
--- the memory with every descriptor of the pool so, and what a walk left of it
-abbrev pub turnedPool : Pool → List ℕ → List ℕ
-turnedPool p m = withPoolBytes p m (turned (p .length / 8) (poolBytes p m))
+-- the memory with every descriptor of the pool so
+abbrev pub swappedPool : Pool → List ℕ → List ℕ
+swappedPool p m = withPoolBytes p m (swapped (p .length / 8) (poolBytes p m))
 
-abbrev pub turnedOutcome : Pool → Outcome → Outcome
-turnedOutcome p o = record { result = o .result; bytes = turnedPool p (o .bytes) }
+-- an answer, and the memory that was left with it, with every descriptor of the pool so
+abbrev pub swappedOutcome : Pool → Outcome → Outcome
+swappedOutcome p o = record { result = o .result; bytes = swappedPool p (o .bytes) }

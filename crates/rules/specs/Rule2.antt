@@ -25,7 +25,7 @@ use Rattle.lookup.specs.Trace.{leaf}
 use Rattle.permission.specs.Permission.{writable}
 use Rattle.walk.specs.Walk.{walk, poolBytes}
 use Rattle.rules.specs.Steps.{Step, AllPass, FirstFails, leafSteps, walkSteps}
-use Rattle.rules.specs.Orders.{otherOrder, turnedPool, turnedOutcome}
+use Rattle.rules.specs.Orders.{otherOrder, swappedPool, swappedOutcome}
 use Rattle.rules.specs.Tables.{traceOf, TablesOff, TablesClear, InSum, bareWalk, restricted}
 
 -- the steps of an access
@@ -128,8 +128,8 @@ pub record Rule2 : Type 0 where
   pub bare : (r : Regime) (a : Access) (m : List ℕ) → TablesOff r a ⊎ TablesClear r a m → walk r a m ≡ bareWalk r a m
   -- with bit 62 in the tables' sum, a success asked for no write, and made nothing dirty
   pub readOnly : (r : Regime) (a : Access) (m : List ℕ) (s : Success) → walk r a m .result ≡ success s → InSum 62 r a m → (asksWrite (a .kind) ≡ false) × (s .dirtied ≡ false)
-  -- in the other byte order, over a pool with every descriptor in that order, it is the same walk: the same answer, and the same bytes so turned
-  pub orders : (r : Regime) (a : Access) (m : List ℕ) → walk (otherOrder r) a (turnedPool (r .pool) m) ≡ turnedOutcome (r .pool) (walk r a m)
+  -- in the other byte order, over a pool with every descriptor in that order, it is the same walk: the same answer, and what it leaves is what the walk left, with every descriptor of the pool in the other order
+  pub orders : (r : Regime) (a : Access) (m : List ℕ) → walk (otherOrder r) a (swappedPool (r .pool) m) ≡ swappedOutcome (r .pool) (walk r a m)
   -- every output address is below 2 to the output size (RULES 9.4)
   pub below : (r : Regime) (a : Access) (m : List ℕ) (s : Success) → walk r a m .result ≡ success s → s .output .0 < outputLimit (r .output)
   -- the count of reads is the length of the list of descriptor addresses visited, and at most 4 (RULES 9.3): for a success,

@@ -12,7 +12,7 @@ use Rattle.vmsa.specs.declared.Access.{Access}
 use Rattle.checks.specs.declared.Checked.the-variants.{Accepted}
 use Rattle.checks.specs.Order.{walkCheck}
 use Rattle.walk.specs.Walk.{Outcome, walk, poolBytes}
-use Rattle.rules.specs.Orders.{otherOrder, turnedPool}
+use Rattle.rules.specs.Orders.{otherOrder, swappedPool}
 use Rattle.rules.specs.Tables.{traceOf}
 use Rattle.rules.proofs.Rule1.{rule1}
 use Rattle.rules.proofs.Rule2.{rule2}
@@ -93,7 +93,7 @@ module _ (m : List ℕ) (g : RegimeWords) (a : AccessWords) where
         readOnly = λ t h. rule2 .readOnly R A m (successIn w) (succeeded t) h;
         orders = λ h n′ y e s.
             let o = rule2 .orders R A m in
-            let k : told y n′ ≡ walkWords (otherOrder R) A (turnedPool (R .pool) m) = s ∙ ap (λ (r : Regime). walkWords r A (turnedPool (R .pool) m)) e in (
+            let k : told y n′ ≡ walkWords (otherOrder R) A (swappedPool (R .pool) m) = s ∙ ap (λ (r : Regime). walkWords r A (swappedPool (R .pool) m)) e in (
               sym (ap (λ (t : Told AnswerWords). t .reply) k ∙ ap (λ (p : Outcome). wordsOf (p .result)) o),
               ap (λ (t : Told AnswerWords). t .memory) k ∙ ap (λ (p : Outcome). p .bytes) o,
             );

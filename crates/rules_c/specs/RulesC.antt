@@ -24,7 +24,7 @@ use Rattle.walk.specs.Walk.{poolBytes}
 use Rattle.rules.specs.Rule1.{FirstNumber, Managed}
 use Rattle.rules.specs.Steps.{AllPass, FirstFails}
 use Rattle.rules.specs.Tables.{traceOf, TablesOff, TablesClear, InSum, bareWalk}
-use Rattle.rules.specs.Orders.{otherOrder, turnedPool}
+use Rattle.rules.specs.Orders.{otherOrder, swappedPool}
 use Rattle.rules.specs.Rule2.{stepsOf, LeafOf, offset, Placed, Right, FlagUpdate, DirtyUpdate, SumOf}
 use Rattle.tlb.specs.Walker.{noRegime}
 use Rattle.tlb.specs.Ours.{ours}
@@ -88,8 +88,8 @@ module _ (m : List ℕ) (g : RegimeWords) (a : AccessWords) (m′ : List ℕ) (w
     -- a leaf's sum is that of the tables on the way; with bit 62 in it a success asked for no write, and made nothing dirty
     pub sum : (l : LeafOf R A m) → SumOf l
     pub readOnly : w .tag ≡ 0 → InSum 62 R A m → (asksWrite (A .kind) ≡ false) × (flag (w .dirtied) ≡ false)
-    -- a call with the other byte order, over the memory with every descriptor of the pool in that order, gave the same answer, and left the same bytes so turned
-    pub orders : (h : RegimeWords) (n′ : List ℕ) (x : AnswerWords) → regimeOf h ≡ otherOrder R → WalkSays (turnedPool (R .pool) m) h a n′ x → (w ≡ x) × (n′ ≡ turnedPool (R .pool) m′)
+    -- a call with the other byte order, over the memory with every descriptor of the pool in that order, gave the same answer, and left what this one left, with every descriptor of the pool in the other order
+    pub orders : (h : RegimeWords) (n′ : List ℕ) (x : AnswerWords) → regimeOf h ≡ otherOrder R → WalkSays (swappedPool (R .pool) m) h a n′ x → (w ≡ x) × (n′ ≡ swappedPool (R .pool) m′)
     -- a success may be remembered where AF is 1 afterwards; a fault, where a leaf with AF 1 was reached and step 7 or 8 failed
     pub cacheable : w .tag ≡ 0 → Bytes m → (l : LeafOf R A m) → flag (w .cacheable) ≡ af (desc (R .ee) m′ (offset l))
     pub fault-cacheable : w .tag ≡ 1

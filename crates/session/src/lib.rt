@@ -135,7 +135,7 @@ impl Session {
         }
     }
 
-    // Stores one descriptor at a physical address in the pool: refused, or else done.
+    // Stores one descriptor at a physical address in the pool, in the byte order of the regime: refused, or else done.
     pub fn store(self, memory: &mut [u8], address: PhysAddr, value: u64) -> Changed
         ensures { λ x. ⌜ handed (x .session) (now (memory .exit)) (replyTo (x .reply)) ≡ leaves self (now (memory .entry)) (store (address .0) value) ⌝ }
     {

@@ -29,7 +29,7 @@ pub record Walker : Type 0 where
   pub settingCheck : Regime → Checked
   pub accessCheck : Access → Checked
   pub storeCheck : Regime → ℕ → Checked
-  -- where a physical address lies in the memory, and the bytes of a descriptor
+  -- where a physical address lies in the memory, and the bytes of a descriptor in the byte order of the regime
   pub offset : Regime → ℕ → ℕ
   pub word : Regime → ℕ → List ℕ
   -- the page of an access: address bits 63..12

@@ -9,7 +9,7 @@ use lib.ListN.{length, getD, take, drop, length-append, length-drop, take-append
 use lib.Seq.{length-take-le, drop-at, take-at, getD-take, getD-drop, getD-append-add, take-add, drop-drop, take-append-le, drop-append-le}
 use Rattle.descriptor.specs.Bytes.{valueOf, desc, put}
 use Rattle.descriptor.specs.Bits.{pick}
-use Rattle.descriptor.proofs.Laws.{getD-put-before, getD-put-after, put-part}
+use Rattle.descriptor.proofs.Laws.{length-put, getD-put-before, getD-put-after, put-part}
 
 -- ---- n bytes x for those from s on
 
@@ -38,6 +38,13 @@ module _ (m x : List ℕ) (s n : ℕ) (fits : s + n ≤ length m) (same : length
       rw (append-assoc, drop-at (take s m) (x ++ drop (s + n) m) s (length-take-le s m (let h : s ≤ length m = omega arith in h)))
       (take-at x (drop (s + n) m) n same)
 
+  -- the part put in once more
+  pub with-with : (y : List ℕ) → take s (take s m ++ x ++ drop (s + n) m) ++ y ++ drop (s + n) (take s m ++ x ++ drop (s + n) m) ≡ take s m ++ y ++ drop (s + n) m
+  with-with y =
+      let front : length (take s m) ≡ s = length-take-le s m (let h : s ≤ length m = omega arith in h) in
+      let first : take s (take s m ++ x ++ drop (s + n) m) ≡ take s m = rw append-assoc (take-at (take s m) (x ++ drop (s + n) m) s front) in
+      rw (first, drop-at (take s m ++ x) (drop (s + n) m) (s + n) front-length)
+
 -- a part put back, as the borrow checker has it and as the definition says it
 pub put-back : (m x : List ℕ) (s n : ℕ) → take s m ++ (x ++ drop n (drop s m)) ≡ take s m ++ x ++ drop (s + n) m
 put-back m x s n = rw (drop-drop n s m, append-assoc)
@@ -61,6 +68,13 @@ pub with-put : (ee : Bool) (m : List ℕ) (s n i v : ℕ) (b : Bool) → s + n �
     → take s m ++ pick b (put ee (take n (drop s m)) i v) (take n (drop s m)) ++ drop (s + n) m ≡ pick b (put ee m (s + i) v) m
 with-put ee m s n i v true h k = sym (put-back m (put ee (take n (drop s m)) i v) s n) ∙ put-part ee m s n i v h k
 with-put ee m s n i v false h k = with-own m s n
+
+-- the part after a descriptor was stored in it
+pub part-put : (ee : Bool) (m : List ℕ) (s n i v : ℕ) → s + n ≤ length m → i + 8 ≤ n → take n (drop s (put ee m (s + i) v)) ≡ put ee (take n (drop s m)) i v
+part-put ee m s n i v h k =
+    let part = take n (drop s m) in
+    let l : length part ≡ n = length-part m s n h in
+    ap (λ (x : List ℕ). take n (drop s x)) (sym (with-put ee m s n i v true h k)) ∙ part-with m (put ee part i v) s n h (length-put ee part i v (rw l k) ∙ l)
 
 -- a descriptor of the part is one of the memory
 pub desc-part : (ee : Bool) (m : List ℕ) (s n j : ℕ) → s + n ≤ length m → j + 8 ≤ n → desc ee (take n (drop s m)) j ≡ desc ee m (s + j)

@@ -211,13 +211,13 @@ fn run_long(memory: &mut [u8; TOO_LONG], a: Access) {
 
 // ---- a session
 
-// An access in a session, and its line.
-fn step(session: Session, memory: &mut [u8; LENGTH], text: &[u8], a: Access) -> Session {
+// An access in a session whose tables have the byte order of ee, and its line.
+fn step(session: Session, memory: &mut [u8; LENGTH], text: &[u8], a: Access, ee: bool) -> Session {
     let x = session.access(memory, a);
     let after = x.session;
     let answer = x.answer;
     print(text);
-    print_answer(answer, descriptor::load(memory, LEAF_OFFSET, false));
+    print_answer(answer, descriptor::load(memory, LEAF_OFFSET, ee));
     after
 }
 
@@ -225,19 +225,20 @@ fn step(session: Session, memory: &mut [u8; LENGTH], text: &[u8], a: Access) -> 
 fn run_session(memory: &mut [u8; LENGTH], r: Regime) {
     let read = usual(AccessKind::Read);
     let write = usual(AccessKind::Write);
-    fill(memory, THIRD, LEAF, r.ee);
-    let s0 = step(Session::empty(), memory, b"no regime:", read);
+    let ee = r.ee;
+    fill(memory, THIRD, LEAF, ee);
+    let s0 = step(Session::empty(), memory, b"no regime:", read, ee);
     let set = s0.set_regime(memory, r);
     let s1 = set.session;
-    let s2 = step(s1, memory, b"first read:", read);
-    let s3 = step(s2, memory, b"second read:", read);
-    let s4 = step(s3, memory, b"first write:", write);
-    let s5 = step(s4, memory, b"second write:", write);
+    let s2 = step(s1, memory, b"first read:", read, ee);
+    let s3 = step(s2, memory, b"second read:", read, ee);
+    let s4 = step(s3, memory, b"first write:", write, ee);
+    let s5 = step(s4, memory, b"second write:", write, ee);
     let gone = s5.store(memory, PhysAddr(LEAF_ADDRESS), 0);
     let s6 = gone.session;
-    let s7 = step(s6, memory, b"after a store:", read);
-    let s8 = step(s7.invalidate_all(), memory, b"after a drop:", read);
-    step(s8, memory, b"and again:", read);
+    let s7 = step(s6, memory, b"after a store:", read, ee);
+    let s8 = step(s7.invalidate_all(), memory, b"after a drop:", read, ee);
+    step(s8, memory, b"and again:", read, ee);
 }
 
 fn main() {

@@ -2,6 +2,8 @@
 
 use super::*;
 
+#[path = "tests/order.rs"]
+mod order;
 #[path = "tests/spare.rs"]
 mod spare;
 
@@ -33,7 +35,8 @@ const REGIME: Regime = Regime {
     wxn: 0,
     hpd0: 0,
     hpd1: 0,
-    spare: [0; 6],
+    ee: 0,
+    spare: [0; 5],
 };
 
 const READ: Access = Access {
@@ -65,6 +68,12 @@ fn under([first, second, third]: [u64; 3]) -> Vec<u8> {
     put(&mut memory, 0x0000, 0x4000_1003 | first << 59);
     put(&mut memory, 0x1000, 0x4000_2003 | second << 59);
     put(&mut memory, THIRD, TABLE | third << 59);
+    memory
+}
+
+/// The memory with every descriptor in the other byte order.
+fn turned(mut memory: Vec<u8>) -> Vec<u8> {
+    memory.chunks_exact_mut(8).for_each(<[u8]>::reverse);
     memory
 }
 
@@ -231,7 +240,19 @@ fn null_where_the_length_is_0() {
 #[test]
 fn fresh_session() {
     let session = session_empty();
-    assert_eq!(session.set, 0);
+    let initial = Regime {
+        length: 0,
+        address: 0,
+        root0: 0,
+        root1: 0,
+        attributes: 0,
+        disabled0: 1,
+        disabled1: 1,
+        ha: 0,
+        hd: 0,
+        ..REGIME
+    };
+    assert_eq!((session.regime, session.set), (initial, 0));
     assert!(session.entries.iter().all(|entry| entry.held == 0));
 }
 
@@ -250,11 +271,11 @@ fn session_keeps_each_regime_field() {
         ..REGIME
     };
     // Each flag is on and off, and any two of them differ somewhere.
-    for [disabled0, disabled1, ha, hd, wxn, hpd0, hpd1] in [
-        [1, 0, 1, 1, 0, 1, 0],
-        [0, 1, 1, 0, 1, 1, 0],
-        [1, 0, 0, 0, 1, 1, 1],
-        [1, 0, 1, 0, 0, 0, 1],
+    for [disabled0, disabled1, ha, hd, wxn, hpd0, hpd1, ee] in [
+        [1, 0, 1, 1, 0, 1, 0, 0],
+        [0, 1, 1, 0, 1, 1, 0, 1],
+        [1, 0, 0, 0, 1, 1, 1, 0],
+        [1, 0, 1, 0, 0, 0, 1, 1],
     ] {
         let regime = Regime {
             disabled0,
@@ -264,6 +285,7 @@ fn session_keeps_each_regime_field() {
             wxn,
             hpd0,
             hpd1,
+            ee,
             ..numbers
         };
         assert_eq!(session(regime).regime, regime);
@@ -320,7 +342,7 @@ fn session_uses_each_regime_field() {
     };
     let hd_off = Regime { hd: 0, ..REGIME };
     type Change = fn(&mut Regime);
-    let changes: [(Regime, Access, Change); 16] = [
+    let changes: [(Regime, Access, Change); 17] = [
         (REGIME, READ, |r| r.start = 0x10000),
         (REGIME, READ, |r| r.length = 0x3000),
         (REGIME, READ, |r| r.address = POOL - 0x1000),
@@ -337,6 +359,7 @@ fn session_uses_each_regime_field() {
         (REGIME, fetch, |r| r.wxn = 1),
         (REGIME, under(READ), |r| r.hpd0 = 1),
         (REGIME, under(upper), |r| r.hpd1 = 1),
+        (REGIME, READ, |r| r.ee = 1),
     ];
     for (i, (mut regime, access, change)) in changes.into_iter().enumerate() {
         let before = over(regime, access);
@@ -615,7 +638,8 @@ fn any_regime(state: &mut u64) -> Regime {
         wxn: byte(),
         hpd0: byte(),
         hpd1: byte(),
-        spare: [(); 6].map(|()| byte()),
+        ee: byte() & 0x80,
+        spare: [(); 5].map(|()| byte()),
         ..REGIME
     };
     regime.root1 = next(state);

@@ -1,9 +1,15 @@
 //! For the tests: four tables with one leaf in a pool, as the worked cases
-//! have them (`docs/RULES.md`, 12), and random numbers.
+//! have them (`docs/RULES.md`, 12); calls that are made in both byte orders;
+//! and random numbers.
 
 #![allow(dead_code)]
 
-use vmsa::{Access, Fault, FaultKind, OutputSize, PhysAddr, Pool, Range, Regime, VirtAddr};
+use std::fmt::Debug;
+
+use vmsa::{
+    Access, Answer, Fault, FaultKind, OutputSize, PhysAddr, Pool, Range, Refusal, Regime, Session,
+    VirtAddr,
+};
 
 /// Physical address of the pool, and of its root.
 pub const POOL: u64 = 0x4000_0000;
@@ -45,7 +51,17 @@ pub const ADDRESS: VirtAddr = VirtAddr(0x40_3abc);
 pub const CLEAN: u64 = 0x0008_0000_8000_53c3;
 
 pub fn put(memory: &mut [u8], offset: usize, descriptor: u64) {
-    memory[offset..offset + 8].copy_from_slice(&descriptor.to_le_bytes());
+    put_in(false, memory, offset, descriptor);
+}
+
+/// Puts a descriptor in the byte order of EE.
+pub fn put_in(ee: bool, memory: &mut [u8], offset: usize, descriptor: u64) {
+    let bytes = if ee {
+        descriptor.to_be_bytes()
+    } else {
+        descriptor.to_le_bytes()
+    };
+    memory[offset..offset + 8].copy_from_slice(&bytes);
 }
 
 pub fn get(memory: &[u8], offset: usize) -> u64 {
@@ -82,6 +98,87 @@ pub fn read() -> Access {
 
 pub fn write() -> Access {
     Access::write(ADDRESS, 4).el0()
+}
+
+/// The memory with every descriptor in the other byte order.
+pub fn turned(memory: &[u8]) -> Vec<u8> {
+    let mut turned = memory.to_vec();
+    for page in turned.chunks_mut(4096) {
+        // Most pages have one byte throughout, and stay as they are.
+        if page[1..] != page[..page.len() - 1] {
+            page.chunks_exact_mut(8).for_each(<[u8]>::reverse);
+        }
+    }
+    turned
+}
+
+/// Makes a call over the memory, then the same over the descriptors in the
+/// other byte order with EE turned: both answer alike, and leave the same.
+fn in_both<T: Debug + PartialEq>(
+    memory: &mut [u8],
+    call: impl FnOnce(&mut [u8]) -> T,
+    other: impl FnOnce(&mut [u8]) -> T,
+) -> T {
+    let mut other_memory = turned(memory);
+    let given = call(memory);
+    assert_eq!(other(&mut other_memory), given, "with EE turned");
+    assert!(turned(&other_memory) == memory, "with EE turned");
+    given
+}
+
+/// The walk, in both byte orders.
+pub fn walk(memory: &mut [u8], regime: &Regime, access: &Access) -> Answer {
+    let other = regime.ee(!regime.ee);
+    in_both(
+        memory,
+        |memory| vmsa::walk(memory, regime, access),
+        |memory| vmsa::walk(memory, &other, access),
+    )
+}
+
+/// A session, and one of the other byte order beside it.
+#[derive(Clone, Debug, PartialEq)]
+pub struct Both(pub Session, Session);
+
+impl Both {
+    pub fn new() -> Self {
+        Self(Session::new(), Session::new())
+    }
+
+    pub fn set_regime(&mut self, memory: &[u8], regime: &Regime) -> Result<(), Refusal> {
+        let other = regime.ee(!regime.ee);
+        in_both(
+            &mut memory.to_vec(),
+            |memory| self.0.set_regime(memory, regime),
+            |memory| self.1.set_regime(memory, &other),
+        )
+    }
+
+    pub fn access(&mut self, memory: &mut [u8], access: &Access) -> Answer {
+        in_both(
+            memory,
+            |memory| self.0.access(memory, access),
+            |memory| self.1.access(memory, access),
+        )
+    }
+
+    pub fn store(
+        &mut self,
+        memory: &mut [u8],
+        address: PhysAddr,
+        descriptor: u64,
+    ) -> Result<(), Refusal> {
+        in_both(
+            memory,
+            |memory| self.0.store(memory, address, descriptor),
+            |memory| self.1.store(memory, address, descriptor),
+        )
+    }
+
+    pub fn invalidate_all(&mut self) {
+        self.0.invalidate_all();
+        self.1.invalidate_all();
+    }
 }
 
 /// xorshift64.

@@ -20,7 +20,7 @@ returns c =
     let read : c .before .from-le-bytes .result ≡ number eight =
     rw (window0 8 (a .memory .now) (a .at) (start .pre), add-zero (a .at)) (c .before .from-le-bytes .ensures) in
     let bytes : Bytes eight = bytes-take (drop (a .at) (a .memory .now)) 8 (bytes-drop (a .memory .now) (a .at) (λ i. omega (arith, c .before .before .before .before .before .before .before .before .before .before .shared-slice-known .given i))) in
-    rw (c .ordered .ensures, read) (value-again (a .ee) eight long bytes)
+    rw (c .in-order .ensures, read) (value-again (a .ee) eight long bytes)
 
 pub load-spec : {M : Type 1} → statement M
 load-spec =

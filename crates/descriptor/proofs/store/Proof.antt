@@ -13,7 +13,7 @@ returns : tie.Need-returns
 unfolding run digits
 returns c =
     let a = c .before .before .args in
-    let bytes : digits 8 (c .ordered .result) ≡ bytesOf (a .ee) (a .value) = ap (digits 8) (c .ordered .ensures) ∙ bytes-again (a .ee) (a .value) in
+    let bytes : digits 8 (c .in-order .result) ≡ bytesOf (a .ee) (a .value) = ap (digits 8) (c .in-order .ensures) ∙ bytes-again (a .ee) (a .value) in
     rw (add-zero (a .at)) at (ap (run (a .memory .now) (a .at) 0) bytes ∙ written (a .ee) (a .memory .now) (a .at) (a .value) (c .before .before .pre))
 
 pub store-spec : {M : Type 1} → statement M

@@ -30,7 +30,7 @@ fn each_spare(session: &mut Session, mut each: impl FnMut(&mut [u8])) {
 /// What stands in spare bytes that are given, and where the library only
 /// writes.
 #[derive(Clone, Copy, PartialEq)]
-enum Fill {
+pub enum Fill {
     Zeros,
     Noise,
     /// Noise in the session before each call too; it is logged without.
@@ -51,19 +51,22 @@ impl Noise {
 }
 
 /// A random list of calls from the fresh session.
-struct List {
+pub struct List {
     calls: u64,
     noise: Noise,
+    /// EE: the byte order of the tables, and of most regimes.
+    ee: u8,
     session: Session,
-    memory: Vec<u8>,
-    /// Each reply, and the session behind it.
-    log: Vec<u8>,
+    pub memory: Vec<u8>,
+    /// Each reply, and the session behind it; once it has a regime, its EE is
+    /// logged as 0 where it is the list's.
+    pub log: Vec<u8>,
     /// Of accesses: successes, faults, refusals, and hits among them.
     counts: [u32; 4],
 }
 
 impl List {
-    fn new(seed: u64, fill: Fill) -> Self {
+    fn new(seed: u64, fill: Fill, ee: u8) -> Self {
         let mut memory = memory();
         for page in 0..96 {
             put(
@@ -72,9 +75,13 @@ impl List {
                 CLEAN + ((page as u64) << 12),
             );
         }
+        if ee != 0 {
+            memory = turned(memory);
+        }
         let mut list = Self {
             calls: seed,
             noise: Noise { state: !seed, fill },
+            ee,
             session: session_empty(),
             memory,
             log: Vec::new(),
@@ -98,6 +105,7 @@ impl List {
             hd: self.below(2) as u8,
             wxn: self.below(2) as u8,
             hpd0: self.below(4) as u8 / 3,
+            ee: self.ee ^ (self.below(8) as u8 / 7),
             ..REGIME
         };
         self.noise.fill(&mut regime.spare);
@@ -172,7 +180,17 @@ impl List {
         if self.noise.fill == Fill::NoiseInSession {
             each_spare(&mut after, |spare| spare.fill(0));
         }
+        if after.set != 0 {
+            after.regime.ee ^= self.ee;
+        }
         self.log.extend(&*bytes(&mut after));
+    }
+
+    /// A list of 300 calls, made.
+    pub fn made(seed: u64, fill: Fill, ee: u8) -> Self {
+        let mut list = Self::new(seed << 32 | 0x9e37_79b9, fill, ee);
+        (0..300).for_each(|_| list.call());
+        list
     }
 }
 
@@ -182,12 +200,8 @@ fn no_say() {
     // writes and in the spare bytes it was given.
     let mut counts = [0; 4];
     for seed in 1..=40 {
-        let [zeros, noise, in_session] =
-            [Fill::Zeros, Fill::Noise, Fill::NoiseInSession].map(|fill| {
-                let mut list = List::new(seed << 32 | 0x9e37_79b9, fill);
-                (0..300).for_each(|_| list.call());
-                list
-            });
+        let [zeros, noise, in_session] = [Fill::Zeros, Fill::Noise, Fill::NoiseInSession]
+            .map(|fill| List::made(seed, fill, seed as u8 % 2));
         for other in [noise, in_session] {
             assert!(zeros.log == other.log, "list {seed}");
             assert!(zeros.memory == other.memory, "list {seed}");
@@ -202,7 +216,7 @@ fn zero_where_written() {
     // A session with a byte in all that is spare, and a regime and an access.
     const BYTE: u8 = 0xa5;
     let regime = Regime {
-        spare: [BYTE; 6],
+        spare: [BYTE; 5],
         ..REGIME
     };
     let read = Access {

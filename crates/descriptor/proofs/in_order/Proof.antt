@@ -5,13 +5,13 @@ use mathlib.Core.Path.{_≡_, refl, sym}
 use mathlib.Core.List.{reverse}
 use native.Mathlib.Omega.{arith}
 use Rattle.descriptor.specs.Bits.{pick}
-use Rattle.descriptor.specs.Bytes.{number, digits, ordered, valueOf}
+use Rattle.descriptor.specs.Bytes.{number, digits, inOrder, valueOf}
 use Rattle.descriptor.proofs.Laws.{number-digits}
-use Rattle.descriptor.proofs.ordered.Statement.{statement}
-use Rattle.descriptor.proofs.ordered.Tie as tie
+use Rattle.descriptor.proofs.in_order.Statement.{statement}
+use Rattle.descriptor.proofs.in_order.Tie as tie
 
 either : (ee : Bool) (v : ℕ) → v < 2 ^ 64 → pick ee (number (reverse (digits 8 v))) v ≡ valueOf ee (digits 8 v)
-unfolding valueOf ordered
+unfolding valueOf inOrder
 either true v h = refl
 either false v h = sym (number-digits v h)
 
@@ -21,5 +21,5 @@ returns c =
     let h : a .v < 2 ^ 64 = omega arith in
     rw (c .select .ensures, c .before .swap-bytes .ensures) (either (a .ee) (a .v) h)
 
-pub ordered-spec : {M : Type 1} → statement M
-ordered-spec = tie.close (tie.spec (λ c κs. search needs) (λ c κs. search needs) returns)
+pub in-order-spec : {M : Type 1} → statement M
+in-order-spec = tie.close (tie.spec (λ c κs. search needs) (λ c κs. search needs) returns)
