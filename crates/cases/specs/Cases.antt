@@ -300,8 +300,8 @@ leafBytes r = take 8 (drop (leafAddress - poolAddress) (walk (r .regime) (r .acc
 abbrev pub firstBytes : Row → List ℕ
 firstBytes r = take 8 (memory r)
 
--- the claim: every row holds; P2, and the write over eight different bytes, leave these bytes of the leaf, and with EE on these; the other way round
--- means with EE on P1's own bytes, and with EE off these; P6 and P7 read these addresses, the last within the pool and just after it;
+-- the claim: every row holds; P2 and the write over eight different bytes leave these bytes of the leaf, with EE off and on; the first descriptor
+-- the other way round has these bytes, with EE on those of P1's; P6 and P7 read these addresses, the last within the pool and just after it;
 -- a memory of so many bytes is accepted, and of one more refused
 unfoldable pub Worked : Type 0
 Worked =
