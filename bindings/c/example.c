@@ -16,6 +16,7 @@
 /* Exactly the pool, which may have up to VMSA_POOL_LIMIT bytes. */
 static uint8_t memory[0x10000];
 
+/* A descriptor of the tables, little-endian, as ee 0 has it. */
 static void put(uint64_t address, uint64_t value)
 {
     int i;

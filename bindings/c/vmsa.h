@@ -47,7 +47,7 @@
  *   - It lends a copy of the pool, made by aligned loads of 8 bytes. A success
  *     changes at most one descriptor of the copy; before it uses the answer,
  *     the monitor puts that change into the guest's table, by compare-and-swap
- *     of the old 8 bytes with the new, as they stand, whatever ee is. Where
+ *     of the old 8 bytes with the new, not swapped, whatever ee is. Where
  *     that fails the session, if one was used, holds a mark that was not made:
  *     empty it (vmsa_session_invalidate_all), take a new copy and call again.
  * A stepwise walk that hands out the expected and the new value is planned.
@@ -84,7 +84,7 @@ extern "C" {
  * TTBR1_EL1, TCR_EL1, MAIR_EL1 and SCTLR_EL1, and where its tables lie.
  * Start from VMSA_REGIME_INIT: T 0, as zeroed bytes have it, is refused.
  * A session keeps what it was given: when the guest changes one of these
- * values, SCTLR_EL1.EE too, set the regime again.
+ * values, SCTLR_EL1.EE among them, set the regime again.
  */
 struct vmsa_regime {
     size_t start;        /* offset of the pool in the memory */
@@ -107,7 +107,10 @@ struct vmsa_regime {
     uint8_t hpd1;        /* HPD1: the same for range 1 */
     uint8_t ee;          /* SCTLR_EL1.EE: the 8 bytes of each descriptor, of
                             both ranges, are big-endian, or else
-                            little-endian; no say in a device's data */
+                            little-endian. What a monitor reads of the
+                            tables itself, to find dirty pages say, is in
+                            this order too. It has no say in a device's
+                            data */
     uint8_t spare[5];
 };
 
@@ -275,10 +278,11 @@ void vmsa_session_access(struct vmsa_session *session,
                          struct vmsa_answer *answer);
 
 /*
- * Stores a descriptor at a physical address in the pool. The value is a number:
- * its 8 bytes are written in the byte order of the session's regime. Gives 0,
- * or the refusal. The entries stay as they are: call
- * vmsa_session_invalidate_all before the next access that is to see the store.
+ * Stores a descriptor at a physical address in the pool. The value is a number,
+ * as a register of the guest holds it: its 8 bytes are written in the byte
+ * order of the session's regime. Gives 0, or the refusal. The entries stay as
+ * they are: call vmsa_session_invalidate_all before the next access that is to
+ * see the store.
  */
 uint8_t vmsa_session_store(struct vmsa_session *session,
                            uint8_t *memory, size_t length,

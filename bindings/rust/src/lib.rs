@@ -92,7 +92,7 @@
 //! - It lends a copy of the pool. A success changes at most one descriptor of
 //!   it, a fault or a refusal none. The monitor makes that change in the
 //!   guest's memory itself, with a compare-and-swap of the old 8 bytes with
-//!   the new, as they stand, whatever [`Regime::ee`](Regime::ee()) is. Where
+//!   the new, not swapped, whatever [`Regime::ee`](Regime::ee()) is. Where
 //!   that fails, the session holds a leaf that the guest's tables do not have:
 //!   empty it, and ask again.
 //!

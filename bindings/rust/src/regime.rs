@@ -296,8 +296,10 @@ impl Regime {
     ///
     /// It holds for the tables of both ranges: for what a walk reads, for the
     /// marks that it makes, and for the bytes that a
-    /// [`store`](crate::Session::store) writes. It has no say in a device's
-    /// data, nor in the leaves that a session holds: they are numbers.
+    /// [`store`](crate::Session::store) writes. What a monitor reads of the
+    /// tables itself, to find dirty pages say, is in this order too. It has no
+    /// say in a device's data, nor in the leaves that a session holds: they are
+    /// numbers.
     ///
     /// ```
     /// use vmsa::{walk, Access, FaultKind, PhysAddr, Pool, Range, Regime, Stop, VirtAddr};

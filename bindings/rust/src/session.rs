@@ -60,8 +60,9 @@ impl Session {
         }
     }
 
-    /// Sets the regime and empties every entry. To be called again when the
-    /// guest changes what the regime says, [EE](Regime::ee()) too.
+    /// Sets the regime and empties every entry. Call it again when the guest
+    /// changes a register that the regime stands for, SCTLR_EL1.EE
+    /// ([`Regime::ee`](Regime::ee())) among them.
     ///
     /// # Errors
     ///
@@ -87,8 +88,8 @@ impl Session {
     /// Stores a descriptor at a physical address in the pool. No entry
     /// changes.
     ///
-    /// The descriptor is a number. Its 8 bytes are written in the byte order of
-    /// the session's regime:
+    /// The descriptor is a number, as a register of the guest holds it. Its 8
+    /// bytes are written in the byte order of the session's regime:
     ///
     /// ```
     /// use vmsa::{PhysAddr, Pool, Refusal, Regime, Session};

@@ -22,7 +22,7 @@ use Rattle.lookup.specs.Steps.{invalid, isTable, addressIn, decoded, entryAt, f
 use Rattle.permission.specs.Permission.{attributeOf, writable, clean, user, uxn, pxn, mayRead, mayWrite, mayFetchWith, mayFetch, permitted, misaligned, flagFails, alignmentFails, permissionFails}
 use Rattle.decision.specs.Decision.{flagDue, dirtyDue, updated, cacheable, outputOf, failing, passing, decision}
 use Rattle.walk.specs.Walk.{Outcome}
-use Rattle.cases.specs.Cases.{poolAddress, base, bigEndian, usual, leafAddress, withLeaf, withThird, puts, memoryOf, Row, expected, Holds, All, written, otherWay, rows, visitedIn, leafBytes, firstBytes, Worked}
+use Rattle.cases.specs.Cases.{poolAddress, base, bigEndian, usual, leafAddress, withLeaf, withThird, puts, memoryOf, Row, expected, Holds, All, written, swappedFirst, otherWay, rows, visitedIn, leafBytes, firstBytes, Worked}
 use Rattle.cases.proofs.Quick.{placed, allPlaced, valueAt, quick, quickWalk}
 use Rattle.cases.proofs.Sparse.{memory-length, traced-quick, walk-quick}
 
@@ -77,9 +77,9 @@ leaf-bytes r v output w ok k h =
     ∙ take-put (r .ee) (memoryOf (r .ee) n (withLeaf v)) (leafAddress - poolAddress) w (rw (memory-length (r .ee) n (withLeaf v) ok) k)
 
 -- those of one descriptor, the first, in a memory of zeros
-first-bytes : (r : Regime) → 8 ≤ r .pool .length → firstBytes (otherWay r) ≡ bytesOf (r .ee) 0x0310004000000000
+first-bytes : (r : Regime) → 8 ≤ r .pool .length → firstBytes (otherWay r) ≡ bytesOf (r .ee) swappedFirst
 unfolding memoryOf puts
-first-bytes r k = take-put (r .ee) (replicate (r .pool .length) 0) 0 0x0310004000000000 (rw (length-replicate {A = ℕ} (r .pool .length) 0) k)
+first-bytes r k = take-put (r .ee) (replicate (r .pool .length) 0) 0 swappedFirst (rw (length-replicate {A = ℕ} (r .pool .length) 0) k)
 
 pub worked : Worked
 unfolding Worked All rows bytesOf inOrder digits allPlaced placed valueAt quick pageSize strideBits unaligned pageOf levelOf shiftOf span blockAt firstLeft cut outputBits outputLimit attribute device normal memoryPoolBad poolAddressBad tszBad sizesBad rootBad rootsBad attributeBad attributesBad dirtyStateBad accessSizeBad lastByte crossing walkCheck invalid isTable addressIn decoded entryAt followed entered descend upper rangeOf outside contextOf lookup locate tableBits withTable

@@ -185,9 +185,12 @@ p2 r = written r leaf 0x80005ABC dirtyLeaf
 abbrev pub eightBytes : Regime → Row
 eightBytes r = written r 0x99084433221153C3 0x443322115ABC 0x9908443322115743
 
--- P1's read where the first descriptor has its 8 bytes the other way round
+-- the first descriptor byte-swapped, and P1's read of it
+abbrev pub swappedFirst : ℕ
+swappedFirst = 0x0310004000000000
+
 abbrev pub otherWay : Regime → Row
-otherWay r = row r (usual Read) (stored 0x40000000 0x0310004000000000 ∷ []) (failed 4 0 false 1) []
+otherWay r = row r (usual Read) (stored poolAddress swappedFirst ∷ []) (failed 4 0 false 1) []
 
 unfoldable pub rows : List Row
 rows =
@@ -300,8 +303,8 @@ leafBytes r = take 8 (drop (leafAddress - poolAddress) (walk (r .regime) (r .acc
 abbrev pub firstBytes : Row → List ℕ
 firstBytes r = take 8 (memory r)
 
--- the claim: every row holds; P2 and the write over eight different bytes leave these bytes of the leaf, with EE off and on; the first descriptor
--- the other way round has these bytes, with EE on those of P1's; P6 and P7 read these addresses, the last within the pool and just after it;
+-- the claim: every row holds; P2 and the write over eight different bytes leave these bytes of the leaf, with EE off and on; the byte-swapped first
+-- descriptor has these, with EE on those of P1's; P6 and P7 read these addresses, the last within the pool and just after it;
 -- a memory of so many bytes is accepted, and of one more refused
 unfoldable pub Worked : Type 0
 Worked =

@@ -20,7 +20,7 @@ fn from_le_bytes(b0: u8, b1: u8, b2: u8, b3: u8, b4: u8, b5: u8, b6: u8, b7: u8)
         + ((b7 as u64) << 56)
 }
 
-// v with its 8 bytes the other way round.
+// v byte-swapped.
 fn swap_bytes(v: u64) -> u64
     ensures { λ r. ⌜ r ≡ number (reverse (digits 8 v)) ⌝ }
 {

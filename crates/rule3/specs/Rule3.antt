@@ -27,7 +27,7 @@ Unrefused done X Y = Y
 Unrefused (refused n) X Y = X
 Unrefused (answered o n) X Y = Y
 
--- an accepted store leaves its 8 bytes as given, in the byte order of R, and every other byte alone
+-- an accepted store leaves the value given in its 8 bytes, in the byte order of R, and every other byte alone
 pub record Stored (W : Walker) (R : Regime) (address value : ℕ) (m left : List ℕ) : Type 0 where
   pub room : W .offset R address + 8 ≤ length m
   pub bytes : left ≡ take (W .offset R address) m ++ W .word R value ++ drop (W .offset R address + 8) m

@@ -1,11 +1,11 @@
 -- The walk in the other byte order, over the memory with every descriptor of the pool in that order, is the walk.
 use Prim.Native.Nat.{ℕ, zero, suc, _+_, _*_, _-_, _/_, _%_, _<_, _≤_}
 use mathlib.Core.Bool.{Bool, true, false, not, _&&_}
-use mathlib.Core.List.{List, _++_, append-assoc, reverse}
-use mathlib.Core.Path.{_≡_, refl, sym, ap, subst, _∙_}
+use mathlib.Core.List.{List, _++_, reverse}
+use mathlib.Core.Path.{_≡_, refl, sym, ap, _∙_}
 use native.Mathlib.Omega.{arith}
 use lib.Dec.{leb}
-use lib.ListN.{length, take, drop, length-append, length-take, length-drop, length-reverse, take-append-drop}
+use lib.ListN.{length, take, drop, length-append, length-drop, length-reverse, take-append-drop}
 use lib.Seq.{length-take-le, take-at, drop-at, drop-drop, drop-append-add}
 use borrow.Author.Tests.{leb-true}
 use Rattle.descriptor.specs.Bytes.{valueOf, bytesOf, desc, put}
@@ -16,10 +16,9 @@ use Rattle.vmsa.specs.Limits.{pageBits, Sized}
 use Rattle.vmsa.specs.Fields.{tableBits}
 use Rattle.geometry.proofs.Geometry.{paged}
 use Rattle.vmsa.specs.declared.Regime.{Regime}
-use Rattle.vmsa.specs.declared.Pool.{Pool}
 use Rattle.vmsa.specs.declared.Access.{Access}
 use Rattle.vmsa.specs.declared.Leaf.{Leaf}
-use Rattle.refusals.specs.Tests.{sizesBad, rootsBad, attributesBad, dirtyStateBad}
+use Rattle.refusals.specs.Tests.{sizesBad, rootsBad, dirtyStateBad}
 use Rattle.checks.specs.declared.Checked.{Checked}
 use Rattle.checks.specs.declared.Checked.the-variants.{Accepted, Refused}
 use Rattle.checks.specs.Order.{walkCheck}
@@ -32,7 +31,7 @@ use Rattle.lookup.proofs.Decoding.{aligned8}
 use Rattle.lookup.proofs.Readers.{AlikeWords, unreachable, values, AlikeEnds, faults, leaves, AlikeTraces, locate-alike}
 use Rattle.permission.specs.Permission.{attributeOf, writable, clean, mayWrite, mayFetch, permitted, flagFails, alignmentFails, permissionFails}
 use Rattle.decision.specs.Decision.{flagDue, dirtyDue, cacheable, passing, decision}
-use Rattle.walk.specs.Walk.{Outcome, poolBytes, withPoolBytes, applied, concluded, traced, walkAlong, walkPool, checked, walk}
+use Rattle.walk.specs.Walk.{Outcome, poolBytes, concluded, traced, walkPool, checked, walk}
 use Rattle.walk.proofs.Parts.{part-with, with-with, with-own}
 use Rattle.walk.proofs.Ends.{found, aligned-zero, ready}
 use Rattle.rules.specs.Orders.{otherOrder, swapped, swappedPool, swappedOutcome}

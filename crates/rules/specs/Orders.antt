@@ -12,7 +12,7 @@ use Rattle.walk.specs.Walk.{Outcome, poolBytes, withPoolBytes}
 abbrev pub otherOrder : Regime → Regime
 otherOrder r = withEe r (not (r .ee))
 
--- n descriptors one after another, the 8 bytes of each the other way round
+-- n descriptors one after another, each byte-swapped
 unfoldable pub swapped : ℕ → List ℕ → List ℕ
 swapped zero bytes = bytes
 swapped (suc n) bytes = reverse (take 8 bytes) ++ swapped n (drop 8 bytes)

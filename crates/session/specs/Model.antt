@@ -83,7 +83,7 @@ module _ (W : Walker) where
   abbrev pub accessCall : Session → List ℕ → Access → Stepped
   accessCall s m a = accessWith s m a (s .regime)
 
-  -- ---- store: accepted, its 8 bytes in the pool become the value given, in the byte order of the regime
+  -- ---- store: accepted, the value given stands in its 8 bytes of the pool, in the byte order of the regime
 
   abbrev pub storeBy : Regime → List ℕ → ℕ → ℕ → Checked → Told Reply
   storeBy R m address value Accepted = told done (putWord W R m (offset R address) value)

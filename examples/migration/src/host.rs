@@ -112,7 +112,8 @@ impl Host {
         Ok(host)
     }
 
-    /// The descriptor at an offset of the lent memory.
+    /// The descriptor at an offset of the lent memory. This guest's tables are
+    /// little-endian: its regime has EE off.
     pub fn descriptor(&self, offset: usize) -> u64 {
         let bytes = self.tables[offset..offset + 8].try_into();
         u64::from_le_bytes(bytes.expect("8 bytes"))
