@@ -86,19 +86,6 @@ impl Comparison {
         }
     }
 
-    /// Walks again in both of these ways.
-    fn wrong_again(
-        &mut self,
-        case: &Case,
-        start: usize,
-        before: &[u8],
-        walk: &Walk,
-        answer: &CAnswer,
-    ) -> Option<String> {
-        self.wrong_bare(case, start, before, walk, answer)
-            .or_else(|| self.wrong_reversed(case, start, before.len(), answer))
-    }
-
     /// Whether nobody has written beside the memory.
     fn margins_stand(&self, start: usize, length: usize) -> bool {
         let before = &self.arena[start - MARGIN..start];
@@ -200,7 +187,9 @@ impl Runner for Comparison {
         if !why.is_empty() {
             self.fail(case, memory, after, &walk, &answer, &why);
         }
-        if let Some(words) = self.wrong_again(case, start, memory, &walk, &answer) {
+        let bare = self.wrong_bare(case, start, memory, &walk, &answer);
+        let wrong = bare.or_else(|| self.wrong_reversed(case, start, memory.len(), &answer));
+        if let Some(words) = wrong {
             let after = &self.arena[start..end];
             self.fail(case, memory, after, &walk, &answer, &[words]);
         }

@@ -22,7 +22,7 @@ use Rattle.lookup.specs.Steps.{invalid, isTable, addressIn, decoded, entryAt, f
 use Rattle.permission.specs.Permission.{attributeOf, writable, clean, user, uxn, pxn, mayRead, mayWrite, mayFetchWith, mayFetch, permitted, misaligned, flagFails, alignmentFails, permissionFails}
 use Rattle.decision.specs.Decision.{flagDue, dirtyDue, updated, cacheable, outputOf, failing, passing, decision}
 use Rattle.walk.specs.Walk.{Outcome}
-use Rattle.cases.specs.Cases.{poolAddress, base, bigEndian, usual, leafAddress, withLeaf, withThird, puts, memoryOf, Row, expected, Holds, All, written, swappedFirst, otherWay, rows, visitedIn, leafBytes, firstBytes, Worked}
+use Rattle.cases.specs.Cases.{poolAddress, base, bigEndian, usual, leafAddress, withLeaf, withThird, puts, memoryOf, Row, expected, Holds, All, writeRow, swappedDescriptor, readSwapped, rows, visitedIn, leafBytes, firstBytes, Worked}
 use Rattle.cases.proofs.Quick.{placed, allPlaced, valueAt, quick, quickWalk}
 use Rattle.cases.proofs.Sparse.{memory-length, traced-quick, walk-quick}
 
@@ -68,8 +68,8 @@ visited : (ds : List (ℕ × ℕ)) → allPlaced (base .pool .length) ds ≡ tru
 visited ds ok = ap (λ (t : Trace). t .visited) (traced-quick base (usual Read .address .0) ds ok)
 
 -- the bytes that a write leaves of the leaf, from its row
-leaf-bytes : (r : Regime) (v output w : ℕ) → allPlaced (r .pool .length) (withLeaf v) ≡ true → leafAddress - poolAddress + 8 ≤ r .pool .length → Holds (written r v output w)
-    → leafBytes (written r v output w) ≡ bytesOf (r .ee) w
+leaf-bytes : (r : Regime) (v output w : ℕ) → allPlaced (r .pool .length) (withLeaf v) ≡ true → leafAddress - poolAddress + 8 ≤ r .pool .length → Holds (writeRow r v output w)
+    → leafBytes (writeRow r v output w) ≡ bytesOf (r .ee) w
 unfolding Holds puts
 leaf-bytes r v output w ok k h =
     let n = r .pool .length in
@@ -77,9 +77,9 @@ leaf-bytes r v output w ok k h =
     ∙ take-put (r .ee) (memoryOf (r .ee) n (withLeaf v)) (leafAddress - poolAddress) w (rw (memory-length (r .ee) n (withLeaf v) ok) k)
 
 -- those of one descriptor, the first, in a memory of zeros
-first-bytes : (r : Regime) → 8 ≤ r .pool .length → firstBytes (otherWay r) ≡ bytesOf (r .ee) swappedFirst
+first-bytes : (r : Regime) → 8 ≤ r .pool .length → firstBytes (readSwapped r) ≡ bytesOf (r .ee) swappedDescriptor
 unfolding memoryOf puts
-first-bytes r k = take-put (r .ee) (replicate (r .pool .length) 0) 0 swappedFirst (rw (length-replicate {A = ℕ} (r .pool .length) 0) k)
+first-bytes r k = take-put (r .ee) (replicate (r .pool .length) 0) 0 swappedDescriptor (rw (length-replicate {A = ℕ} (r .pool .length) 0) k)
 
 pub worked : Worked
 unfolding Worked All rows bytesOf inOrder digits allPlaced placed valueAt quick pageSize strideBits unaligned pageOf levelOf shiftOf span blockAt firstLeft cut outputBits outputLimit attribute device normal memoryPoolBad poolAddressBad tszBad sizesBad rootBad rootsBad attributeBad attributesBad dirtyStateBad accessSizeBad lastByte crossing walkCheck invalid isTable addressIn decoded entryAt followed entered descend upper rangeOf outside contextOf lookup locate tableBits withTable

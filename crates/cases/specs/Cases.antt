@@ -176,21 +176,22 @@ abbrev pub leafNow : ℕ → List (ℕ × ℕ)
 leafNow v = stored leafAddress v ∷ []
 
 -- P2's write over a leaf v, with its output address: the leaf becomes w
-abbrev pub written : Regime → ℕ → ℕ → ℕ → Row
-written r v output w = row r (usual Write) (withLeaf v) (passed output true true true) (leafNow w)
+abbrev pub writeRow : Regime → ℕ → ℕ → ℕ → Row
+writeRow r v output w = row r (usual Write) (withLeaf v) (passed output true true true) (leafNow w)
 
 abbrev pub p2 : Regime → Row
-p2 r = written r leaf 0x80005ABC dirtyLeaf
+p2 r = writeRow r leaf 0x80005ABC dirtyLeaf
 
-abbrev pub eightBytes : Regime → Row
-eightBytes r = written r 0x99084433221153C3 0x443322115ABC 0x9908443322115743
+-- a leaf of eight different bytes
+abbrev pub distinctBytes : Regime → Row
+distinctBytes r = writeRow r 0x99084433221153C3 0x443322115ABC 0x9908443322115743
 
--- the first descriptor byte-swapped, and P1's read of it
-abbrev pub swappedFirst : ℕ
-swappedFirst = 0x0310004000000000
+-- P1's first descriptor byte-swapped, and P1's read where it stands
+abbrev pub swappedDescriptor : ℕ
+swappedDescriptor = 0x0310004000000000
 
-abbrev pub otherWay : Regime → Row
-otherWay r = row r (usual Read) (stored poolAddress swappedFirst ∷ []) (failed 4 0 false 1) []
+abbrev pub readSwapped : Regime → Row
+readSwapped r = row r (usual Read) (stored poolAddress swappedDescriptor ∷ []) (failed 4 0 false 1) []
 
 unfoldable pub rows : List Row
 rows =
@@ -200,8 +201,8 @@ rows =
     ∷ p2 base
     ∷ p2 bigEndian
     -- the same with a leaf of eight different bytes
-    ∷ eightBytes base
-    ∷ eightBytes bigEndian
+    ∷ distinctBytes base
+    ∷ distinctBytes bigEndian
     -- P3, with the size that a probe has; size 4 is refused
     ∷ row base (access 0x403ABC 1 ProbeWrite) tables (passed 0x80005ABC false false false) []
     ∷ row base (usual ProbeWrite) tables (refused 6) []
@@ -288,8 +289,8 @@ rows =
     ∷ row bigEndian (usual Read) (withThird 0x40010003) (failed 23 3 false 4) []
     ∷ row bigEndian (usual Write) (underSecond 0b01000 leaf) (failed 15 3 false 4) []
     -- the first descriptor in the other order, with EE on and off: bit 0 is then that of another byte
-    ∷ otherWay bigEndian
-    ∷ otherWay base
+    ∷ readSwapped bigEndian
+    ∷ readSwapped base
     ∷ []
 
 -- the descriptor addresses that the usual access visits, in order
@@ -311,10 +312,10 @@ Worked =
     All rows
     × (leafBytes (p2 base) ≡ 0x43 ∷ 0x57 ∷ 0x00 ∷ 0x80 ∷ 0x00 ∷ 0x00 ∷ 0x08 ∷ 0x00 ∷ [])
     × (leafBytes (p2 bigEndian) ≡ 0x00 ∷ 0x08 ∷ 0x00 ∷ 0x00 ∷ 0x80 ∷ 0x00 ∷ 0x57 ∷ 0x43 ∷ [])
-    × (leafBytes (eightBytes base) ≡ 0x43 ∷ 0x57 ∷ 0x11 ∷ 0x22 ∷ 0x33 ∷ 0x44 ∷ 0x08 ∷ 0x99 ∷ [])
-    × (leafBytes (eightBytes bigEndian) ≡ 0x99 ∷ 0x08 ∷ 0x44 ∷ 0x33 ∷ 0x22 ∷ 0x11 ∷ 0x57 ∷ 0x43 ∷ [])
-    × (firstBytes (otherWay bigEndian) ≡ 0x03 ∷ 0x10 ∷ 0x00 ∷ 0x40 ∷ 0x00 ∷ 0x00 ∷ 0x00 ∷ 0x00 ∷ [])
-    × (firstBytes (otherWay base) ≡ 0x00 ∷ 0x00 ∷ 0x00 ∷ 0x00 ∷ 0x40 ∷ 0x00 ∷ 0x10 ∷ 0x03 ∷ [])
+    × (leafBytes (distinctBytes base) ≡ 0x43 ∷ 0x57 ∷ 0x11 ∷ 0x22 ∷ 0x33 ∷ 0x44 ∷ 0x08 ∷ 0x99 ∷ [])
+    × (leafBytes (distinctBytes bigEndian) ≡ 0x99 ∷ 0x08 ∷ 0x44 ∷ 0x33 ∷ 0x22 ∷ 0x11 ∷ 0x57 ∷ 0x43 ∷ [])
+    × (firstBytes (readSwapped bigEndian) ≡ 0x03 ∷ 0x10 ∷ 0x00 ∷ 0x40 ∷ 0x00 ∷ 0x00 ∷ 0x00 ∷ 0x00 ∷ [])
+    × (firstBytes (readSwapped base) ≡ 0x00 ∷ 0x00 ∷ 0x00 ∷ 0x00 ∷ 0x40 ∷ 0x00 ∷ 0x10 ∷ 0x03 ∷ [])
     × (visitedIn (withThird 0x4000F003) ≡ 0x40000000 ∷ 0x40001000 ∷ 0x40002010 ∷ 0x4000F018 ∷ [])
     × (visitedIn (withThird 0x40010003) ≡ 0x40000000 ∷ 0x40001000 ∷ 0x40002010 ∷ 0x40010018 ∷ [])
     × (walkCheck 16777216 base (usual Read) ≡ Accepted)

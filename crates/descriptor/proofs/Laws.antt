@@ -47,7 +47,7 @@ unfolding digits
 length-digits zero v = refl
 length-digits (suc n) v = ap suc (length-digits n (v / 256))
 
--- ---- either order: all laws need of it, but for those of the other order, is that twice is not at all, and as many bytes (and, in Numbers, that bytes stay bytes)
+-- ---- either order: applied twice it changes nothing, and there are as many bytes; with that bytes stay bytes (Numbers) all laws follow but those of the other order
 
 in-order-twice : (ee : Bool) (l : List ℕ) → inOrder ee (inOrder ee l) ≡ l
 unfolding inOrder
