@@ -13,9 +13,16 @@
 #define LARGE 4   /* of them are as large as can be */
 #define CALLS 500 /* in each world */
 
+/* How many bits of an address lie in a page, by the granule's number. */
+#define GRANULES 3
+
+static const unsigned page_bits[GRANULES] = {
+    [VMSA_GRANULE_4K] = 12, [VMSA_GRANULE_16K] = 14, [VMSA_GRANULE_64K] = 16
+};
+
 /*
- * How large a world is, in pages. The pool lies near the end of the memory:
- * its start is one of the last three that it can have.
+ * How large a world is, in pages of its granule. The pool lies near the end of
+ * the memory: its start is one of the last three that it can have.
  */
 struct extent {
     unsigned memory;
@@ -23,12 +30,16 @@ struct extent {
     int looks;     /* how often all its memory goes into the number */
 };
 
-static const struct extent usual = { 18, 16, 10 };
-static const struct extent largest = {
-    VMSA_MEMORY_LIMIT / 4096, VMSA_POOL_LIMIT / 4096, 1
+static const struct extent usual[GRANULES] = {
+    [VMSA_GRANULE_4K] = { 18, 16, 10 },
+    [VMSA_GRANULE_16K] = { 10, 8, 4 },
+    [VMSA_GRANULE_64K] = { 6, 4, 2 }
 };
 
 static struct extent extent;
+static unsigned granule;          /* its number, as a rule */
+static unsigned bits;             /* of a page of that granule, */
+static unsigned unit;             /* and its bytes */
 static uint8_t memory[VMSA_MEMORY_LIMIT];
 static uint64_t pool;             /* its physical address, as a rule */
 static int big;                   /* the byte order of its tables, as a rule */
@@ -62,8 +73,8 @@ static int one_in(unsigned n)
 
 /* How the calls ended, and the number over all that they left. */
 
-static unsigned successes, faults, refusals[UINT8_MAX + 1], accepted, held,
-    under, accessed, accessed_big, dirtied;
+static unsigned successes[GRANULES], faults, refusals[UINT8_MAX + 1], accepted,
+    held, under, accessed, accessed_big, dirtied;
 static uint64_t digest = UINT64_C(0xCBF29CE484222325);
 
 static void add(const void *from, size_t size)
@@ -89,8 +100,15 @@ static void add_reply(unsigned refusal)
         refusals[refusal]++;
 }
 
-/* The answer under a regime with this EE. */
-static void add_answer(const struct vmsa_answer *answer, uint8_t ee)
+/* The number of the granule that a regime's byte names. */
+static unsigned named(uint8_t byte)
+{
+    return byte < GRANULES ? byte : VMSA_GRANULE_4K;
+}
+
+/* The answer under this regime. */
+static void add_answer(const struct vmsa_answer *answer,
+                       const struct vmsa_regime *r)
 {
     add(answer, sizeof *answer);
     if (answer->tag == VMSA_REFUSED)
@@ -98,10 +116,10 @@ static void add_answer(const struct vmsa_answer *answer, uint8_t ee)
     else if (answer->tag == VMSA_FAULT)
         faults++;
     else
-        successes++;
+        successes[named(r->granule)]++;
     held += answer->cacheable && answer->reads == 0;
     accessed += answer->accessed;
-    accessed_big += ee != 0 && answer->accessed;
+    accessed_big += r->ee != 0 && answer->accessed;
     dirtied += answer->dirtied;
 }
 
@@ -109,7 +127,7 @@ static void add_answer(const struct vmsa_answer *answer, uint8_t ee)
 
 static size_t memory_bytes(void)
 {
-    return (size_t)extent.memory * 4096;
+    return (size_t)extent.memory * unit;
 }
 
 /* The first page of the memory that may be the pool's. */
@@ -118,12 +136,18 @@ static unsigned first_page(void)
     return extent.memory - extent.pool - 2;
 }
 
-static const unsigned indexes[] = { 0, 1, 2, 3, 511 };
-#define INDEXES (sizeof indexes / sizeof indexes[0])
+/* The indexes: the first four, and the last. */
+#define INDEXES 5
+
+static unsigned index_at(unsigned i)
+{
+    return i + 1 < INDEXES ? i : unit / 8 - 1;
+}
 
 /*
  * A table above level 3, and a page there; at times a block, or neither. One in
- * eight has something in bits 63 to 59.
+ * eight has something in bits 63 to 59, one in four in those between bit 12 and
+ * the granule, which have no say.
  */
 static uint64_t descriptor(void)
 {
@@ -134,6 +158,8 @@ static uint64_t descriptor(void)
 
     if (one_in(8))
         flags |= value & UINT64_C(0xF800000000000000);
+    if (one_in(4))
+        flags |= value & (unit - 4096);
     if (which == 1)
         return value;
     if (which == 2)
@@ -141,8 +167,8 @@ static uint64_t descriptor(void)
     if (which < 6)
         return ((value >> 16) & ~UINT64_C(0xFFF)) | flags | 3;
     if (which < 9)
-        return (value & UINT64_C(0x3FE00000)) | flags | 1;
-    return (pool + 4096 * page) | flags | 3;
+        return (value & UINT64_C(0xFFE00000)) | flags | 1;
+    return (pool + unit * page) | flags | 3;
 }
 
 /* The byte order of the world's tables; one in 32 is the other. */
@@ -154,7 +180,8 @@ static int order(void)
 static void build_tables(void)
 {
     uint64_t value;
-    size_t page, i;
+    size_t page;
+    unsigned i;
     int byte, last;
 
     for (page = first_page(); page < extent.memory; page++)
@@ -162,7 +189,7 @@ static void build_tables(void)
             value = descriptor();
             last = order() ? 7 : 0;
             for (byte = 0; byte < 8; byte++)
-                memory[page * 4096 + indexes[i] * 8 + (size_t)(byte ^ last)] =
+                memory[page * unit + index_at(i) * 8 + (size_t)(byte ^ last)] =
                     (uint8_t)(value >> (8 * byte));
         }
 }
@@ -185,22 +212,35 @@ static uint8_t size_field(void)
     return (uint8_t)(one_in(2) ? 16 : 16 + below(24));
 }
 
-/* A multiple of 4,096 below a number of pages; now and then 8 more. */
+/*
+ * A multiple of the granule below a number of pages; now and then 8 more, or
+ * 4,096 more.
+ */
 static unsigned pages_below(unsigned n)
 {
-    unsigned bytes = 4096 * below(n);
+    unsigned bytes = unit * below(n);
 
-    return one_in(100) ? bytes + 8 : bytes;
+    if (one_in(100))
+        return bytes + 8;
+    return one_in(50) ? bytes + 4096 : bytes;
+}
+
+/* The granule of the world's tables; one in 16 is any byte. */
+static uint8_t any_granule(void)
+{
+    if (!one_in(16))
+        return (uint8_t)granule;
+    return (uint8_t)(one_in(2) ? below(GRANULES) : below(256));
 }
 
 static struct vmsa_regime random_regime(void)
 {
     struct vmsa_regime r;
 
-    r.start = 4096 * first_page() + pages_below(3);
-    r.length = 4096 * extent.pool;
+    r.start = unit * first_page() + pages_below(3);
+    r.length = unit * extent.pool;
     if (one_in(8))
-        r.length = one_in(2) ? pages_below(extent.pool + 2) : r.length + 4096;
+        r.length = one_in(2) ? pages_below(extent.pool + 2) : r.length + unit;
     r.address = one_in(16) ? pool + pages_below(2) : pool;
     r.root0 = pool + pages_below(extent.pool);
     r.root1 = pool + pages_below(extent.pool);
@@ -216,27 +256,39 @@ static struct vmsa_regime random_regime(void)
     r.hpd0 = (uint8_t)one_in(4);
     r.hpd1 = (uint8_t)one_in(4);
     r.ee = (uint8_t)order();
+    r.granule = any_granule();
     memset(r.spare, (int)below(256), sizeof r.spare);
     return r;
 }
 
 /* Calls */
 
+/* In a page: one in 8 just before its end, or that of 4 KiB. */
+static unsigned offset(void)
+{
+    unsigned at = below(unit);
+
+    if (one_in(16))
+        return at | (unit - 16);
+    if (one_in(16))
+        return at | 0xFF0;
+    return one_in(2) ? at & ~15u : at;
+}
+
 static uint64_t address(void)
 {
     unsigned range = below(2);
-    unsigned bits = 64 - (range ? regime.tsz1 : regime.tsz0) % 64u;
-    unsigned offset = below(4096);
+    unsigned size = 64 - (range ? regime.tsz1 : regime.tsz0) % 64u;
     uint64_t value = 0;
     int level;
 
     for (level = 0; level < 4; level++)
-        value = value << 9 | indexes[below(INDEXES)];
-    value = value << 12 | (one_in(2) ? offset & 0xFF0 : offset);
-    if (bits < 64 && !one_in(16)) {
-        value &= (UINT64_C(1) << bits) - 1;
+        value = value << (bits - 3) | index_at(below(INDEXES));
+    value = value << bits | offset();
+    if (size < 64 && !one_in(16)) {
+        value &= (UINT64_C(1) << size) - 1;
         if (range)
-            value |= UINT64_MAX << bits;
+            value |= UINT64_MAX << size;
     }
     return value;
 }
@@ -287,7 +339,7 @@ static void store(void)
     uint64_t value = descriptor();
     size_t length = length_now();
 
-    at += 8 * indexes[below(INDEXES)];
+    at += 8 * index_at(below(INDEXES));
     if (one_in(20))
         at += below(16);
     add_reply(vmsa_session_store(&session, memory, length, at, value));
@@ -301,19 +353,21 @@ static void walk(void)
 
     memset(&answer, 0xAA, sizeof answer);
     vmsa_walk(memory, length_now(), &r, &access, &answer);
-    add_answer(&answer, r.ee);
+    add_answer(&answer, &r);
 }
 
 static void access_session(void)
 {
     struct vmsa_access access = random_access();
     struct vmsa_answer answer;
+    uint64_t page;
 
     memset(&answer, 0xAA, sizeof answer);
     vmsa_session_access(&session, memory, length_now(), &access, &answer);
-    add_answer(&answer, session.regime.ee);
+    add_answer(&answer, &session.regime);
+    page = access.address >> page_bits[named(session.regime.granule)];
     under += answer.cacheable && answer.reads == 0 &&
-             session.entries[access.address / 4096 % VMSA_ENTRIES].tables != 0;
+             session.entries[page % VMSA_ENTRIES].tables != 0;
 }
 
 static void call(void)
@@ -332,11 +386,24 @@ static void call(void)
         access_session();
 }
 
-static void run_world(void)
+static void set_extent(int large)
+{
+    const struct extent largest = {
+        VMSA_MEMORY_LIMIT / unit, VMSA_POOL_LIMIT / unit, 1
+    };
+
+    extent = large ? largest : usual[granule];
+}
+
+static void run_world(unsigned number, int large)
 {
     int i;
 
-    pool = one_in(8) ? (UINT64_C(1) << 48) - 4096 * extent.pool : 0x40000000u;
+    granule = number;
+    bits = page_bits[granule];
+    unit = 1u << bits;
+    set_extent(large);
+    pool = one_in(8) ? (UINT64_C(1) << 48) - unit * extent.pool : 0x40000000u;
     big = one_in(2);
     regime = random_regime();
     memset(memory, 0, memory_bytes());
@@ -358,14 +425,14 @@ int main(void)
 {
     int i;
 
-    for (i = 0; i < WORLDS; i++) {
-        extent = i < LARGE ? largest : usual;
-        run_world();
-    }
-    printf("%u successes (%u set the Access flag, %u of them with EE on, "
-           "%u marked dirty), %u faults, %u of both from an entry (%u under "
-           "tables that take away)\n",
-           successes, accessed, accessed_big, dirtied, faults, held, under);
+    for (i = 0; i < WORLDS; i++)
+        run_world((unsigned)i % GRANULES, i < LARGE);
+    printf("%u, %u and %u successes with 4, 16 and 64 KiB (%u set the Access "
+           "flag, %u of them with EE on, %u marked dirty), %u faults, %u of "
+           "both from an entry (%u under tables that take away)\n",
+           successes[VMSA_GRANULE_4K], successes[VMSA_GRANULE_16K],
+           successes[VMSA_GRANULE_64K], accessed, accessed_big, dirtied, faults,
+           held, under);
     printf("%u accepted; refused, by number:", accepted);
     for (i = 1; i <= UINT8_MAX; i++)
         if (refusals[i] != 0)

@@ -1,8 +1,9 @@
 /*
  * Runs the library over the worked cases P1 to P12, every refusal, the largest
  * pool and memory, a script of a session, the bits of tables, the spare bytes
- * and VMSA_REGIME_INIT, all of it in both byte orders; over what EE turns; and
- * over the texts. Prints how many checks were made, and how many failed.
+ * and VMSA_REGIME_INIT; over what EE turns; and over the tables of each granule
+ * and what another granule turns; all of it in both byte orders. Then over the
+ * texts. Prints how many checks were made, and how many failed.
  *
  * Each call goes through one of the expect functions. It takes what the call
  * is given and its answer; want has what the call is to leave of memory and
@@ -55,6 +56,32 @@ static struct world {
 /* EE of the worked regime, and so the byte order in which tables are stored. */
 static uint8_t ee;
 
+/*
+ * The shape of a granule's tables: the index bits at each level, the least T
+ * whose first level it is, and whether it has blocks. There is no level 0 with
+ * 64 KiB, and no T for a first level 3 with 4 KiB.
+ */
+#define LEVELS 4
+
+static const struct shape {
+    const char *name;
+    uint8_t granule;
+    uint8_t high[LEVELS], low[LEVELS];
+    uint8_t first[LEVELS];
+    uint8_t blocks[LEVELS];
+} shapes[] = {
+    { "", VMSA_GRANULE_4K, { 47, 38, 29, 20 }, { 39, 30, 21, 12 },
+      { 16, 25, 34, 40 }, { 0, 1, 1, 0 } },
+    { ", 16 KiB", VMSA_GRANULE_16K, { 47, 46, 35, 24 }, { 47, 36, 25, 14 },
+      { 16, 17, 28, 39 }, { 0, 0, 1, 0 } },
+    { ", 64 KiB", VMSA_GRANULE_64K, { 0, 47, 41, 28 }, { 0, 42, 29, 16 },
+      { 0, 16, 22, 35 }, { 0, 0, 1, 0 } }
+};
+#define SHAPES (sizeof shapes / sizeof shapes[0])
+
+/* That of the tables under test; the worked cases have 4 KiB. */
+static const struct shape *shape = shapes;
+
 /* Checks */
 
 static unsigned checks, failures;
@@ -65,7 +92,7 @@ static void check(const char *name, const char *part, int ok)
     if (ok)
         return;
     failures++;
-    printf("%s%s: %s\n", name, ee ? ", EE" : "", part);
+    printf("%s%s%s: %s\n", name, shape->name, ee ? ", EE" : "", part);
 }
 
 static void check_bytes(const char *name, const char *part, const void *got,
@@ -284,8 +311,6 @@ static void lend(uint8_t *room, uint8_t *wanted, size_t size, size_t zeros)
 }
 
 /* The descriptors of the worked cases, by level, and their bytes by ee. */
-#define LEVELS 4
-
 static const struct on_the_way {
     uint64_t address, value;
     uint8_t bytes[2][8];
@@ -466,12 +491,18 @@ static void test_worked_tables(void)
                 found(FRAME + 0xABC, AF | DIRTIED, 4));
 }
 
+/* A memory of so many zeros, and the fresh session. */
+static void blank_of(size_t length)
+{
+    lend(lent.large, want.large, GUARD + length + GUARD, length);
+}
+
 /* The worked cases over a pool, and so a memory, of another length. */
 static struct vmsa_regime fresh_of(size_t length)
 {
     struct vmsa_regime regime = worked_regime();
 
-    lend(lent.large, want.large, GUARD + length + GUARD, length);
+    blank_of(length);
     given_tables();
     regime.length = length;
     return regime;
@@ -1164,12 +1195,24 @@ static void turn(void)
     ee = !ee;
 }
 
+/* The shape that a regime's byte names. */
+static const struct shape *shape_of(uint8_t granule)
+{
+    size_t i;
+
+    for (i = 0; i < SHAPES; i++)
+        if (shapes[i].granule == granule)
+            return &shapes[i];
+    return shapes;
+}
+
 /* The session is to have this regime, and nothing held. */
 static void expect_regime(const char *name, struct vmsa_regime regime)
 {
     holds_nothing();
     want.session.regime = regime;
     want.session.regime.ee = regime.ee != 0;
+    want.session.regime.granule = shape_of(regime.granule)->granule;
     want.session.set = 1;
     expect_set(name, regime, VMSA_ACCEPTED);
 }
@@ -1347,6 +1390,619 @@ static void test_order_held(void)
                      VMSA_ACCEPTED);
         ee = first;
     }
+}
+
+/* Granules */
+
+#define LEAST_T 16
+#define MOST_T 39
+#define LAST_LEVEL (LEVELS - 1)
+
+/* Bits of an address at every level, for each granule. */
+#define SOME UINT64_C(0x0000B4D2A59E3C71)
+
+#define BLOCK (CLEAN & ~UINT64_C(2))
+#define ADDRESS_BITS UINT64_C(0x0000FFFFFFFFF000) /* of a descriptor */
+
+/* The bytes of the granule: of a page, and of a table. */
+static uint64_t granule(void)
+{
+    return UINT64_C(1) << shape->low[LAST_LEVEL];
+}
+
+static uint64_t low_bits(uint64_t value, unsigned count)
+{
+    return value & ((UINT64_C(1) << count) - 1);
+}
+
+static unsigned first_level(unsigned tsz)
+{
+    unsigned level = LAST_LEVEL;
+
+    while (tsz < shape->first[level])
+        level--;
+    return level;
+}
+
+/* The reads of a walk that ends at a level. */
+static uint8_t reads_to(unsigned tsz, unsigned level)
+{
+    return (uint8_t)(level - first_level(tsz) + 1);
+}
+
+/* The tables lie one behind the other, that of the first level at POOL. */
+static uint64_t table_of(unsigned tsz, unsigned level)
+{
+    return POOL + (level - first_level(tsz)) * granule();
+}
+
+/* Where the descriptor of an address stands in the table of a level. */
+static uint64_t entry_of(unsigned tsz, unsigned level, uint64_t address)
+{
+    const unsigned range = 64 - tsz, end = shape->high[level] + 1u;
+
+    address = low_bits(address, end < range ? end : range);
+    return table_of(tsz, level) + 8 * (address >> shape->low[level]);
+}
+
+/* The pool is a table of each level, from the first on. */
+static struct vmsa_regime shaped_regime(unsigned tsz)
+{
+    struct vmsa_regime regime = worked_regime();
+
+    regime.length = (size_t)(reads_to(tsz, LAST_LEVEL) * granule());
+    regime.tsz0 = (uint8_t)tsz;
+    regime.tsz1 = (uint8_t)tsz;
+    regime.granule = shape->granule;
+    return regime;
+}
+
+/*
+ * The tables on the way of an address to a level. What a descriptor of a table
+ * has between bit 12 and the granule has no say.
+ */
+static void given_way(unsigned tsz, uint64_t address, unsigned last)
+{
+    unsigned level;
+
+    for (level = first_level(tsz); level < last; level++)
+        given(entry_of(tsz, level, address),
+              table_of(tsz, level + 1) | (granule() - 4096) | 3);
+}
+
+/* The pool with nothing but that way, and a descriptor at its end. */
+static void fresh_way(unsigned tsz, uint64_t address, unsigned last,
+                      uint64_t descriptor)
+{
+    blank_of(shaped_regime(tsz).length);
+    given_way(tsz, address, last);
+    given(entry_of(tsz, last, address), descriptor);
+}
+
+/* An address, through a leaf of a level. */
+static uint64_t output_of(unsigned level, uint64_t leaf, uint64_t address)
+{
+    const unsigned low = shape->low[level];
+
+    return (low_bits(leaf, 48) >> low << low) + low_bits(address, low);
+}
+
+/* The session is to hold the page of an address, whose leaf has a level. */
+static void holds_leaf(uint64_t address, unsigned level, uint64_t leaf)
+{
+    const uint64_t page = address >> shape->low[LAST_LEVEL];
+
+    holds(page, leaf);
+    want.session.entries[page % VMSA_ENTRIES].left =
+        (uint8_t)(LAST_LEVEL - level);
+}
+
+/* The answer of a read or write, at the level of its leaf. */
+static struct vmsa_answer found_at(unsigned level, uint64_t leaf,
+                                   uint64_t address, unsigned marks,
+                                   uint8_t reads)
+{
+    struct vmsa_answer answer =
+        found(output_of(level, leaf, address), marks, reads);
+
+    answer.level = (uint8_t)level;
+    return answer;
+}
+
+/* A write through a writable-clean leaf: a walk, a miss, and a hit. */
+static void expect_leaf(const char *name, unsigned tsz, uint64_t address,
+                        unsigned level, uint64_t leaf)
+{
+    const uint64_t dirty = (leaf | 0x400) & ~UINT64_C(0x80);
+    const struct vmsa_access access = access_of(VMSA_WRITE, address, 1);
+    const struct vmsa_answer answer = found_at(
+        level, leaf, address, AF | DIRTIED, reads_to(tsz, level));
+
+    fresh_way(tsz, address, level, leaf);
+    put(&want, entry_of(tsz, level, address), dirty);
+    expect_walk(name, shaped_regime(tsz), access, answer);
+
+    fresh_way(tsz, address, level, leaf);
+    expect_regime(name, shaped_regime(tsz));
+    put(&want, entry_of(tsz, level, address), dirty);
+    holds_leaf(address, level, dirty);
+    expect_access(name, access, answer);
+    expect_access(name, access, found_at(level, leaf, address, 0, 0));
+}
+
+/* A walk and a miss that a descriptor ends, with a fault of its level. */
+static void expect_end(const char *name, struct vmsa_regime regime,
+                       unsigned code, unsigned level, uint64_t descriptor)
+{
+    const struct vmsa_access access =
+        access_of(VMSA_WRITE, low_bits(SOME, 64u - regime.tsz0), 1);
+    const struct vmsa_answer answer =
+        fault(code + level, level, reads_to(regime.tsz0, level));
+
+    fresh_way(regime.tsz0, access.address, level, descriptor);
+    expect_walk(name, regime, access, answer);
+    expect_regime(name, regime);
+    expect_access(name, access, answer);
+}
+
+/* From every first level to a page, in both ranges. */
+static void test_granule_levels(void)
+{
+    static const uint64_t addresses[] = { SOME, ~SOME, UINT64_MAX };
+    unsigned tsz;
+    size_t i;
+
+    for (tsz = LEAST_T; tsz <= MOST_T; tsz++)
+        for (i = 0; i < sizeof addresses / sizeof addresses[0]; i++) {
+            const uint64_t address = low_bits(addresses[i], 64 - tsz);
+
+            expect_leaf("page", tsz, address, LAST_LEVEL, CLEAN);
+            expect_leaf("page, range 1", tsz,
+                        address | UINT64_MAX << (64 - tsz), LAST_LEVEL, CLEAN);
+        }
+}
+
+/* The outermost address of a range is looked up, the next is not. */
+static void test_granule_ends(void)
+{
+    const struct vmsa_answer outside = fault(VMSA_TRANSLATION_FAULT, 0, 0);
+    unsigned tsz;
+
+    blank_of(shaped_regime(LEAST_T).length);
+    for (tsz = LEAST_T; tsz <= MOST_T; tsz++) {
+        const struct vmsa_regime regime = shaped_regime(tsz);
+        const unsigned level = first_level(tsz);
+        const uint64_t size = UINT64_C(1) << (64 - tsz);
+        const struct vmsa_answer inside =
+            fault(VMSA_TRANSLATION_FAULT + level, level, 1);
+
+        expect_walk("end", regime, access_of(VMSA_READ, size - 1, 1), inside);
+        expect_walk("past the end", regime, access_of(VMSA_READ, size, 1),
+                    outside);
+        expect_walk("end, range 1", regime, access_of(VMSA_READ, ~size + 1, 1),
+                    inside);
+        expect_walk("past the end, range 1", regime,
+                    access_of(VMSA_READ, ~size, 1), outside);
+    }
+}
+
+/* Bits 1..0 = 01: a block, where the level has any, or no translation. */
+static void expect_block(unsigned tsz, unsigned level)
+{
+    if (shape->blocks[level])
+        expect_leaf("block", tsz, low_bits(SOME, 64 - tsz), level, BLOCK);
+    else
+        expect_end("no block", shaped_regime(tsz), VMSA_TRANSLATION_FAULT,
+                   level, BLOCK);
+}
+
+/* At every level, below tables and as the first. */
+static void test_granule_blocks(void)
+{
+    unsigned level;
+
+    for (level = first_level(LEAST_T); level < LEVELS; level++) {
+        expect_block(LEAST_T, level);
+        if (shape->first[level] <= MOST_T)
+            expect_block(shape->first[level], level);
+    }
+}
+
+/* Of a leaf's address those bits count that are above what it maps. */
+static void test_granule_cut(void)
+{
+    unsigned level;
+
+    for (level = first_level(LEAST_T); level < LEVELS; level++) {
+        const uint64_t leaf =
+            (level == LAST_LEVEL ? CLEAN : BLOCK) & ~ADDRESS_BITS;
+
+        if (level < LAST_LEVEL && !shape->blocks[level])
+            continue;
+        expect_leaf("all bits", LEAST_T, 0, level, leaf | ADDRESS_BITS);
+        expect_leaf("low bits", LEAST_T, 0, level,
+                    leaf | low_bits(ADDRESS_BITS, shape->low[level]));
+    }
+}
+
+/* An address in a table or a page that is beyond the output size. */
+static void test_granule_output(void)
+{
+    struct vmsa_regime regime = shaped_regime(LEAST_T);
+    unsigned level;
+
+    regime.output = 0;
+    for (level = first_level(LEAST_T); level < LEVELS; level++)
+        expect_end("output size", regime, VMSA_ADDRESS_SIZE_FAULT, level,
+                   UINT64_C(1) << 32 | 3);
+}
+
+/* The tables' sum, of every table on the way. */
+static void test_granule_tables(void)
+{
+    struct vmsa_answer answer = fault(15, LAST_LEVEL, 0);
+    unsigned level;
+
+    answer.cacheable = 1;
+    answer.reads = reads_to(LEAST_T, LAST_LEVEL);
+    for (level = first_level(LEAST_T); level < LAST_LEVEL; level++) {
+        fresh_way(LEAST_T, SOME, LAST_LEVEL, READ);
+        given(entry_of(LEAST_T, level, SOME),
+              table_of(LEAST_T, level + 1) | NO_WRITE | 3);
+        expect_walk("62", shaped_regime(LEAST_T),
+                    access_of(VMSA_WRITE, SOME, 1), answer);
+        expect_regime("62", shaped_regime(LEAST_T));
+        holds_under(8, SOME >> shape->low[LAST_LEVEL], READ);
+        expect_access("62", access_of(VMSA_WRITE, SOME, 1), answer);
+    }
+}
+
+/* An access in the page that is held, or one that leaves it. */
+static void expect_inside(uint64_t address, uint64_t size)
+{
+    const struct vmsa_access access = access_of(VMSA_READ, address, size);
+    struct vmsa_answer answer = found_at(LAST_LEVEL, READ, address, 0, 0);
+
+    expect_access("one page", access, answer);
+    answer.reads = reads_to(LEAST_T, LAST_LEVEL);
+    expect_walk("one page", shaped_regime(LEAST_T), access, answer);
+}
+
+static void expect_across(uint64_t address, uint64_t size)
+{
+    const struct vmsa_access access = access_of(VMSA_READ, address, size);
+
+    expect_access("two pages", access, refused(7));
+    expect_walk("two pages", shaped_regime(LEAST_T), access, refused(7));
+}
+
+/* Multiples of 4,096 may be crossed, where the page does not end there. */
+static void test_granule_crossing(void)
+{
+    const uint64_t page = 3 * granule(), end = page + granule();
+    uint64_t at, size;
+
+    fresh_way(LEAST_T, page, LAST_LEVEL, READ);
+    expect_regime("pages", shaped_regime(LEAST_T));
+    holds_leaf(page, LAST_LEVEL, READ);
+    expect_access("pages", access_of(VMSA_READ, page, 1),
+                  found_at(LAST_LEVEL, READ, page, 0,
+                           reads_to(LEAST_T, LAST_LEVEL)));
+    for (size = 2; size <= 16; size *= 2) {
+        for (at = page + 4096; at < end; at += 4096)
+            expect_inside(at - 1, size);
+        expect_inside(end - size, size);
+        expect_across(end - size + 1, size);
+        expect_across(end - 1, size);
+        expect_across(page - 1, size);
+        expect_across(UINT64_MAX, size);
+    }
+}
+
+/* A session whose bytes have such a pool, as no call leaves them. */
+static void refuses_held(size_t start, size_t length)
+{
+    started();
+    lent.length = 2 * LENGTH;
+    lent.session.regime.start = start;
+    lent.session.regime.length = length;
+    lent.session.regime.granule = shape->granule;
+    want.session = lent.session;
+    expect_access("held pool", a_read(), refused(1));
+    expect_store("held pool", LEAF, 1, 1);
+}
+
+/* A session whose bytes have such a root finds no table. */
+static void finds_no_table(uint64_t root)
+{
+    started();
+    lent.session.regime.root0 = root;
+    lent.session.regime.granule = shape->granule;
+    want.session = lent.session;
+    expect_access("held root", access_of(VMSA_READ, 0x404000, 4),
+                  fault(VMSA_TRANSLATION_FAULT, 0, 0));
+}
+
+/* So many bytes, in each number that is to be a multiple of the granule. */
+static void refuses_bytes(size_t bytes)
+{
+    struct vmsa_regime good = worked_regime(), regime;
+
+    good.granule = shape->granule;
+    regime = good;
+    regime.start = bytes;
+    refuses("start", 1, 2 * LENGTH, regime);
+    refuses_held(bytes, LENGTH);
+    regime = good;
+    regime.length = LENGTH - bytes;
+    refuses("pool length", 1, LENGTH, regime);
+    refuses_held(0, LENGTH - bytes);
+    regime = good;
+    regime.address = POOL + bytes;
+    refuses("pool address", 2, LENGTH, regime);
+    regime = good;
+    regime.root0 = POOL + bytes;
+    refuses("root0", 4, LENGTH, regime);
+    finds_no_table(POOL + bytes);
+    regime = good;
+    regime.root1 = LIMIT48 - bytes;
+    regime.disabled1 = 1;
+    refuses("root1", 4, LENGTH, regime);
+}
+
+static void test_granule_refused(void)
+{
+    struct vmsa_regime regime = worked_regime();
+    size_t bytes;
+
+    for (bytes = 2048; bytes < granule(); bytes *= 2)
+        refuses_bytes(bytes);
+    regime.granule = shape->granule;
+    regime.tsz0 = LEAST_T - 1;
+    refuses("tsz0", 3, LENGTH, regime);
+    regime.tsz0 = MOST_T + 1;
+    refuses("tsz0", 3, LENGTH, regime);
+}
+
+/* One granule, in each of those numbers, with the pool at the end of all. */
+static void test_granule_accepted(void)
+{
+    struct vmsa_regime regime = shaped_regime(LEAST_T);
+    const unsigned level = first_level(LEAST_T);
+
+    regime.start = (size_t)granule();
+    regime.length = (size_t)granule();
+    regime.address = LIMIT48 - granule();
+    regime.root0 = LIMIT48 - granule();
+    regime.root1 = granule();
+    blank_of(2 * (size_t)granule());
+    expect_regime("aligned", regime);
+    expect_access("aligned", access_of(VMSA_READ, 0, 1),
+                  fault(VMSA_TRANSLATION_FAULT + level, level, 1));
+    expect_access("aligned, no pool", access_of(VMSA_READ, UINT64_MAX, 1),
+                  fault(VMSA_EXTERNAL_ABORT + level, level, 1));
+    regime.address += granule();
+    expect_set("aligned, above 2^48", regime, 2);
+}
+
+static struct vmsa_access read_in(unsigned page, uint64_t offset)
+{
+    return access_of(VMSA_READ, page * granule() + offset, 8);
+}
+
+/* Entries go by pages of the granule. */
+static void test_granule_entries(void)
+{
+    static const unsigned pages[] = { 3, 4, 3 + VMSA_ENTRIES };
+    const uint8_t reads = reads_to(LEAST_T, LAST_LEVEL);
+    const uint64_t last = granule() - 8;
+    size_t i;
+
+    fresh_way(LEAST_T, 0, LAST_LEVEL, 0);
+    for (i = 0; i < sizeof pages / sizeof pages[0]; i++)
+        given(entry_of(LEAST_T, LAST_LEVEL, pages[i] * granule()), READ);
+    expect_regime("entries", shaped_regime(LEAST_T));
+    for (i = 0; i < sizeof pages / sizeof pages[0]; i++) {
+        holds(pages[i], READ);
+        expect_access("page, first", read_in(pages[i], 0),
+                      found_at(LAST_LEVEL, READ, 0, 0, reads));
+        expect_access("page, last", read_in(pages[i], last),
+                      found_at(LAST_LEVEL, READ, last, 0, 0));
+    }
+    expect_access("next page, held", read_in(pages[1], last),
+                  found_at(LAST_LEVEL, READ, last, 0, 0));
+    holds(pages[0], READ);
+    expect_access("page, replaced", read_in(pages[0], last),
+                  found_at(LAST_LEVEL, READ, last, 0, reads));
+}
+
+/*
+ * An address is not taken for one of a page that is held, whose number it has
+ * in pages of 4 KiB; both have the same entry.
+ */
+static void test_granule_numbers(void)
+{
+    const unsigned held = VMSA_ENTRIES * (unsigned)(granule() / 4096);
+    const uint8_t reads = reads_to(LEAST_T, LAST_LEVEL);
+
+    fresh_way(LEAST_T, held * granule(), LAST_LEVEL, READ);
+    expect_regime("number", shaped_regime(LEAST_T));
+    holds(held, READ);
+    expect_access("number", read_in(held, 0),
+                  found_at(LAST_LEVEL, READ, 0, 0, reads));
+    if (held != VMSA_ENTRIES)
+        expect_access("number, another page", read_in(VMSA_ENTRIES, 0),
+                      fault(7, LAST_LEVEL, reads));
+}
+
+/* What a table of level 3 maps, and so the first address of the next. */
+static uint64_t next_table(void)
+{
+    return UINT64_C(1) << shape->low[LAST_LEVEL - 1];
+}
+
+/*
+ * The pool at its limit, with memory behind it: a leaf at its very end, and one
+ * right behind it.
+ */
+static struct vmsa_regime fresh_limit(void)
+{
+    const uint64_t end = POOL + VMSA_POOL_LIMIT;
+    struct vmsa_regime regime = shaped_regime(LEAST_T);
+
+    regime.length = VMSA_POOL_LIMIT;
+    blank_of(VMSA_POOL_LIMIT + (size_t)granule());
+    given_way(LEAST_T, 0, LAST_LEVEL - 1);
+    given(entry_of(LEAST_T, LAST_LEVEL - 1, 0), (end - granule()) | 3);
+    given(entry_of(LEAST_T, LAST_LEVEL - 1, next_table()), end | 3);
+    given(end - 8, CLEAN);
+    given(end, CLEAN);
+    return regime;
+}
+
+static void test_granule_limit(void)
+{
+    const uint64_t next = next_table();
+    const struct vmsa_access write = access_of(VMSA_WRITE, next - 8, 8);
+    const uint8_t reads = reads_to(LEAST_T, LAST_LEVEL);
+    const struct vmsa_answer past = fault(23, LAST_LEVEL, reads);
+    struct vmsa_regime regime = fresh_limit();
+
+    put(&want, POOL + VMSA_POOL_LIMIT - 8, DIRTY);
+    expect_walk("limit", regime, write,
+                found_at(LAST_LEVEL, CLEAN, next - 8, AF | DIRTIED, reads));
+    expect_walk("limit, past", regime, access_of(VMSA_READ, next, 8), past);
+
+    fresh_limit();
+    expect_regime("limit", regime);
+    expect_access("limit, past", access_of(VMSA_READ, next, 8), past);
+    put(&want, POOL + VMSA_POOL_LIMIT - 8, 1);
+    expect_store("limit", POOL + VMSA_POOL_LIMIT - 8, 1, VMSA_ACCEPTED);
+    expect_store("limit, past", POOL + VMSA_POOL_LIMIT, 1, 8);
+    regime.length += (size_t)granule();
+    expect_set("above the limit", regime, 1);
+    expect_walk("above the limit", regime, write, refused(1));
+}
+
+/*
+ * With T 39 an address has another entry of the root, its leaf, for each
+ * granule.
+ */
+#define TURNED UINT64_C(0x12340)
+
+static uint64_t turned_leaf(void)
+{
+    return first_level(MOST_T) == LAST_LEVEL ? READ : READ & ~UINT64_C(2);
+}
+
+static void fresh_turned(void)
+{
+    const struct shape *now = shape;
+
+    blank();
+    for (shape = shapes; shape < shapes + SHAPES; shape++)
+        given(entry_of(MOST_T, first_level(MOST_T), TURNED), turned_leaf());
+    shape = now;
+}
+
+static struct vmsa_regime turned_regime(uint8_t granule)
+{
+    struct vmsa_regime regime = worked_regime();
+
+    regime.tsz0 = MOST_T;
+    regime.granule = granule;
+    return regime;
+}
+
+/* A read near that address, through that leaf. */
+static void expect_turned(const char *name, uint64_t address, uint8_t reads)
+{
+    expect_access(name, access_of(VMSA_READ, address, 2),
+                  found_at(first_level(MOST_T), turned_leaf(), address, 0,
+                           reads));
+}
+
+/* From each granule to each other, over the same memory. */
+static void test_granule_turned(void)
+{
+    size_t from, to;
+
+    fresh_turned();
+    for (from = 0; from < SHAPES; from++)
+        for (to = 0; to < SHAPES; to++) {
+            struct vmsa_regime bad = turned_regime(shapes[to].granule);
+
+            shape = &shapes[from];
+            expect_regime("turned", turned_regime(shape->granule));
+            holds_leaf(TURNED, first_level(MOST_T), turned_leaf());
+            expect_turned("turned", TURNED, 1);
+            bad.tsz1 = MOST_T + 1;
+            expect_set("turned, refused", bad, 3);
+            expect_turned("turned, refused", TURNED, 0);
+
+            shape = &shapes[to];
+            expect_regime("turned", turned_regime(shape->granule));
+            holds_leaf(TURNED, first_level(MOST_T), turned_leaf());
+            expect_turned("turned", TURNED, 1);
+            expect_turned("turned, held", TURNED, 0);
+        }
+    shape = shapes;
+}
+
+/* Every value of the byte, in a regime that is given. */
+static void test_granule_values(void)
+{
+    const struct vmsa_access read = access_of(VMSA_READ, TURNED, 2);
+    unsigned value;
+
+    for (value = 0; value <= UINT8_MAX; value++) {
+        const struct vmsa_regime regime = turned_regime((uint8_t)value);
+
+        shape = shape_of((uint8_t)value);
+        fresh_turned();
+        expect_walk("any granule", regime, read,
+                    found_at(first_level(MOST_T), turned_leaf(), TURNED, 0, 1));
+        expect_regime("any granule", regime);
+        holds_leaf(TURNED, first_level(MOST_T), turned_leaf());
+        expect_turned("any granule", TURNED, 1);
+    }
+    shape = shapes;
+}
+
+/* A session of this shape: the page is read, another is not there. */
+static void expect_held(uint8_t reads)
+{
+    const struct vmsa_access across = access_of(VMSA_READ, 0x12FFF, 2);
+    const struct vmsa_access miss = access_of(VMSA_READ, 0x1000000, 2);
+    const unsigned level = first_level(MOST_T);
+
+    holds_leaf(TURNED, level, turned_leaf());
+    expect_turned("held granule", TURNED, reads);
+    expect_access("held granule, miss", miss,
+                  fault(VMSA_TRANSLATION_FAULT + level, level, 1));
+    if (granule() == 4096)
+        expect_access("held granule, across", across, refused(7));
+    else
+        expect_turned("held granule, across", across.address, 0);
+}
+
+/*
+ * Every value of the byte, where a session has it: no call leaves one above 2.
+ * The page has an entry for each granule; the first with it has to walk.
+ */
+static void test_granule_held(void)
+{
+    unsigned value;
+
+    fresh_turned();
+    expect_regime("held granule", turned_regime(VMSA_GRANULE_4K));
+    for (value = 0; value <= UINT8_MAX; value++) {
+        lent.session.regime.granule = (uint8_t)value;
+        want.session = lent.session;
+        shape = shape_of((uint8_t)value);
+        expect_held(value < SHAPES);
+    }
+    shape = shapes;
 }
 
 /* Spare bytes */
@@ -1576,6 +2232,28 @@ static void test_order(void)
     test_order_held();
 }
 
+static void test_granules(void)
+{
+    for (shape = shapes; shape < shapes + SHAPES; shape++) {
+        test_granule_levels();
+        test_granule_ends();
+        test_granule_blocks();
+        test_granule_cut();
+        test_granule_output();
+        test_granule_tables();
+        test_granule_crossing();
+        test_granule_refused();
+        test_granule_accepted();
+        test_granule_entries();
+        test_granule_numbers();
+        test_granule_limit();
+    }
+    shape = shapes;
+    test_granule_turned();
+    test_granule_values();
+    test_granule_held();
+}
+
 int main(void)
 {
     check("library", "version", vmsa_version() == VMSA_VERSION);
@@ -1585,6 +2263,7 @@ int main(void)
         test_walks();
         test_sessions();
         test_order();
+        test_granules();
     }
     printf("%u checks, %u failed\n", checks, failures);
     return failures != 0;

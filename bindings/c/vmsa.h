@@ -1,6 +1,6 @@
 /*
  * Stage 1 translation of an Arm guest's addresses (VMSAv8-64, EL1&0 regime,
- * 4 KiB granule), for the emulated devices of a monitor.
+ * granules of 4, 16 and 64 KiB), for the emulated devices of a monitor.
  *
  * The caller lends a memory of at most VMSA_MEMORY_LIMIT bytes. The guest's
  * table pool is a part of it; no byte outside the pool is changed or has a
@@ -14,11 +14,12 @@
  * What a guest must not use
  *
  * The library is not told of, and leaves alone: top-byte-ignore, 52-bit
- * addresses, PAN and E0PD, the Contiguous bit, permission indirection,
- * protected table walks, Access flags of tables, ASIDs, granules other than
- * 4 KiB, a second stage, Realm and Secure state, alignment checking of Normal
- * memory. docs/RULES.md, section 14, says for each what happens here and what
- * hardware would do.
+ * addresses, different granules for the two ranges, PAN and E0PD, the
+ * Contiguous bit, permission indirection, protected table walks, Access flags
+ * of tables, ASIDs, a second stage, Realm and Secure state, alignment checking
+ * of Normal memory. It refuses a root that is aligned to its own small table
+ * and not to the granule. docs/RULES.md, section 14, says for each what happens
+ * here and what hardware would do.
  *
  * Out of contract
  *
@@ -70,14 +71,33 @@ extern "C" {
 #endif
 
 /* The version of this interface; vmsa_version() gives the library's. */
-#define VMSA_VERSION 8u
+#define VMSA_VERSION 9u
 
-/* The most bytes of a lent memory, and of a pool. */
+/*
+ * The most bytes of a lent memory, and of a pool: 256 tables of 4 KiB, 64 of
+ * 16 KiB, or 16 of 64 KiB.
+ */
 #define VMSA_MEMORY_LIMIT 16777216u
 #define VMSA_POOL_LIMIT 1048576u
 
 /* The TLB entries of a session. */
 #define VMSA_ENTRIES 64
+
+/*
+ * The granules, by their numbers in TCR_EL1.TG0; any other number is taken as
+ * VMSA_GRANULE_4K. Pages and tables have so many bytes, and the levels and
+ * their index bits follow (docs/RULES.md, 6.2).
+ *
+ * A regime has one granule for both ranges. TCR_EL1.TG1 has other numbers for
+ * the same granules (1: 16 KiB, 2: 4 KiB, 3: 64 KiB): do not pass them here. A
+ * guest whose TG0 and TG1 name different granules, with neither range
+ * disabled, must not be used.
+ */
+enum vmsa_granule {
+    VMSA_GRANULE_4K = 0,
+    VMSA_GRANULE_64K = 1,
+    VMSA_GRANULE_16K = 2
+};
 
 /*
  * A translation regime: the values that the guest has in TTBR0_EL1,
@@ -111,16 +131,18 @@ struct vmsa_regime {
                             tables itself, to find dirty pages say, is in
                             this order too. It has no say in a device's
                             data */
-    uint8_t spare[5];
+    uint8_t granule;     /* TG0, enum vmsa_granule: that of both ranges */
+    uint8_t spare[4];
 };
 
 /*
  * A regime with no pool, both ranges disabled with T 16 and HPD off, 48 bits of
- * output, no updates, little-endian descriptors and Device attributes; a call
- * takes it once it has a pool.
+ * output, no updates, little-endian descriptors, a granule of 4 KiB and Device
+ * attributes; a call takes it once it has a pool.
  */
 #define VMSA_REGIME_INIT \
-    { 0, 0, 0, 0, 0, 0, 16, 16, 1, 1, 5, 0, 0, 0, 0, 0, 0, { 0, 0, 0, 0, 0 } }
+    { 0, 0, 0, 0, 0, 0, 16, 16, 1, 1, 5, 0, 0, 0, 0, 0, 0, VMSA_GRANULE_4K, \
+      { 0, 0, 0, 0 } }
 
 /*
  * The kinds of an access. A kind above 5 is taken as VMSA_UPDATE, so that no
@@ -135,7 +157,7 @@ enum vmsa_kind {
     VMSA_PROBE_WRITE = 5
 };
 
-/* An access of size bytes: 1, 2, 4, 8 or 16, all in one 4 KiB page. */
+/* An access of size bytes: 1, 2, 4, 8 or 16, all in one page of the granule. */
 struct vmsa_access {
     uint64_t address; /* address of the guest */
     uint64_t size;
@@ -174,19 +196,20 @@ enum vmsa_fault_code {
 enum vmsa_refusal {
     VMSA_ACCEPTED = 0,
     VMSA_REFUSED_MEMORY_POOL = 1,   /* memory above its limit; pool start or
-                                       length not a multiple of 4,096; pool
-                                       empty, above its limit, or past the
-                                       end of the memory */
-    VMSA_REFUSED_POOL_ADDRESS = 2,  /* not a multiple of 4,096, or the pool
-                                       ends above 2^48 */
+                                       length not a multiple of the granule;
+                                       pool empty, above its limit, or past
+                                       the end of the memory */
+    VMSA_REFUSED_POOL_ADDRESS = 2,  /* not a multiple of the granule, or the
+                                       pool ends above 2^48 */
     VMSA_REFUSED_SIZES = 3,         /* tsz0, tsz1 or output out of bounds */
-    VMSA_REFUSED_ROOT = 4,          /* root0 or root1 not a multiple of 4,096,
-                                       or not below 2^48 */
+    VMSA_REFUSED_ROOT = 4,          /* root0 or root1 not a multiple of the
+                                       granule, or not below 2^48 */
     VMSA_REFUSED_ATTRIBUTES = 5,    /* a byte is neither 0x00, 0x04, 0x08,
                                        0x0C nor has both halves nonzero */
     VMSA_REFUSED_ACCESS_SIZE = 6,   /* a size that its kind does not have, or
                                        a fetch that is not aligned */
-    VMSA_REFUSED_PAGE_CROSSING = 7, /* first and last byte in two pages */
+    VMSA_REFUSED_PAGE_CROSSING = 7, /* first and last byte in two pages of
+                                       the granule */
     VMSA_REFUSED_STORE_ADDRESS = 8, /* not a multiple of 8, or not in the
                                        pool */
     VMSA_REFUSED_NO_REGIME = 9,     /* the session has no regime yet */
@@ -219,7 +242,7 @@ struct vmsa_answer {
  * the tables on the way to it take away.
  */
 struct vmsa_entry {
-    uint64_t page;  /* bits 63 to 12 of the guest's address */
+    uint64_t page;  /* the guest's address, divided by the granule */
     uint64_t value; /* the leaf descriptor: a number, in which ee has no say */
     uint8_t left;   /* levels below it: 3 less its level */
     uint8_t held;
@@ -380,7 +403,8 @@ VMSA_NEXT(regime, hd, wxn, 55);
 VMSA_NEXT(regime, wxn, hpd0, 56);
 VMSA_NEXT(regime, hpd0, hpd1, 57);
 VMSA_NEXT(regime, hpd1, ee, 58);
-VMSA_NEXT(regime, ee, spare, 59);
+VMSA_NEXT(regime, ee, granule, 59);
+VMSA_NEXT(regime, granule, spare, 60);
 VMSA_LAST(regime, spare, 64);
 
 VMSA_NEXT(access, address, size, 8);

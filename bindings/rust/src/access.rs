@@ -1,6 +1,6 @@
 //! What a device asks for.
 
-use crate::{check, ffi, Problem, VirtAddr};
+use crate::{check, ffi, Granule, Problem, VirtAddr};
 
 /// The kind of an access.
 #[derive(Clone, Copy, Debug, PartialEq, Eq, Hash)]
@@ -55,8 +55,8 @@ pub enum ExceptionLevel {
 pub struct Access {
     /// The first byte.
     pub address: VirtAddr,
-    /// The count of bytes: 1, 2, 4, 8 or 16, all in one page of 4 KiB. A
-    /// fetch has 4, a probe 1.
+    /// The count of bytes: 1, 2, 4, 8 or 16, all in one page of the regime's
+    /// granule. A fetch has 4, a probe 1.
     pub size: u64,
     /// The exception level.
     pub el: ExceptionLevel,
@@ -118,25 +118,27 @@ impl Access {
     }
 
     /// Says in words why the access itself would be refused, whatever the
-    /// regime and the memory. As with [`Regime::check`](crate::Regime::check),
-    /// no call needs this, and the library decides.
+    /// memory and the regime, but for the granule. As with
+    /// [`Regime::check`](crate::Regime::check), no call needs this, and the
+    /// library decides.
     ///
     /// # Errors
     ///
     /// The first cause that applies; [`Problem`] has the order.
     ///
     /// ```
-    /// use vmsa::{Access, VirtAddr};
+    /// use vmsa::{Access, Granule, VirtAddr};
     ///
-    /// let across = Access::read(VirtAddr(0x40_3ffd), 4);
+    /// let across = Access::read(VirtAddr(0x40_2ffd), 4);
     /// assert_eq!(
-    ///     across.check().unwrap_err().to_string(),
-    ///     "refused with 7: the first byte, 0x403ffd, and the last, 0x404000, lie in different pages",
+    ///     across.check(Granule::Kib4).unwrap_err().to_string(),
+    ///     "refused with 7: the first byte, 0x402ffd, and the last, 0x403000, \
+    ///      lie in different pages of 4096 bytes",
     /// );
-    /// assert_eq!(Access::read(VirtAddr(0x40_3ffc), 4).check(), Ok(()));
+    /// assert_eq!(across.check(Granule::Kib16), Ok(()));
     /// ```
-    pub fn check(&self) -> Result<(), Problem> {
-        check::of_access(self)
+    pub fn check(&self, granule: Granule) -> Result<(), Problem> {
+        check::of_access(granule, self)
     }
 }
 

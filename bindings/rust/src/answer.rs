@@ -40,7 +40,8 @@ pub struct Translation {
     pub shareability: Shareability,
     /// nG: the translation belongs to one address space.
     pub nonglobal: bool,
-    /// The level of the leaf: 1 or 2 for a block, 3 for a page.
+    /// The level of the leaf: 3 for a page, 2 for a block, and 1 for one of
+    /// 1 GiB (granule of 4 KiB).
     pub level: u8,
     /// This access set the Access flag.
     pub accessed: bool,

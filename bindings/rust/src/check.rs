@@ -4,12 +4,9 @@
 //! refusal, its causes in the order of `docs/RULES.md`, 5.1.
 
 use crate::{
-    Access, AccessKind, PhysAddr, Pool, Problem, Regime, VirtAddr, MEMORY_LIMIT, POOL_LIMIT,
+    Access, AccessKind, Granule, PhysAddr, Pool, Problem, Regime, VirtAddr, MEMORY_LIMIT,
+    POOL_LIMIT,
 };
-
-/// Bytes of a page and of a table; the pool's start, length and address are
-/// multiples of it.
-pub(crate) const PAGE: u64 = 4096;
 
 /// Physical addresses lie below this.
 const PHYSICAL_LIMIT: u64 = 1 << 48;
@@ -18,34 +15,35 @@ type Checked = Result<(), Problem>;
 
 /// What a set regime checks, in its order.
 pub(crate) fn of_regime(regime: &Regime, memory: usize) -> Checked {
-    memory_and_pool(&regime.pool, memory)?;
-    pool_address(&regime.pool)?;
+    let granule = regime.granule;
+    memory_and_pool(granule, &regime.pool, memory)?;
+    pool_address(granule, &regime.pool)?;
     sizes(0, regime.range0.tsz)?;
     sizes(1, regime.range1.tsz)?;
-    root(0, regime.range0.root)?;
-    root(1, regime.range1.root)?;
+    root(granule, 0, regime.range0.root)?;
+    root(granule, 1, regime.range1.root)?;
     let mut bytes = regime.attributes.into_iter().enumerate();
     bytes.try_for_each(|(index, byte)| attribute(index, byte))?;
     dirty_state(regime)
 }
 
-/// What an access is checked for by itself, in its order.
-pub(crate) fn of_access(access: &Access) -> Checked {
+/// What an access is checked for under a granule, in its order.
+pub(crate) fn of_access(granule: Granule, access: &Access) -> Checked {
     access_size(access)?;
-    page_crossing(access)
+    page_crossing(granule, access)
 }
 
 /// Refusal 1.
-fn memory_and_pool(pool: &Pool, memory: usize) -> Checked {
+fn memory_and_pool(granule: Granule, pool: &Pool, memory: usize) -> Checked {
     let Pool { start, length, .. } = *pool;
     if memory > MEMORY_LIMIT {
         return Err(Problem::MemoryTooLong { length: memory });
     }
-    if unaligned(start as u64) {
-        return Err(Problem::PoolStartUnaligned { start });
+    if unaligned(granule, start as u64) {
+        return Err(Problem::PoolStartUnaligned { start, granule });
     }
-    if unaligned(length as u64) {
-        return Err(Problem::PoolLengthUnaligned { length });
+    if unaligned(granule, length as u64) {
+        return Err(Problem::PoolLengthUnaligned { length, granule });
     }
     if length == 0 {
         return Err(Problem::PoolEmpty);
@@ -64,10 +62,10 @@ fn memory_and_pool(pool: &Pool, memory: usize) -> Checked {
 }
 
 /// Refusal 2.
-fn pool_address(pool: &Pool) -> Checked {
+fn pool_address(granule: Granule, pool: &Pool) -> Checked {
     let (address, length) = (pool.address, pool.length);
-    if unaligned(address.0) {
-        return Err(Problem::PoolAddressUnaligned { address });
+    if unaligned(granule, address.0) {
+        return Err(Problem::PoolAddressUnaligned { address, granule });
     }
     if end(address.0, length) > PHYSICAL_LIMIT.into() {
         return Err(Problem::PoolAddressTooHigh { address, length });
@@ -85,9 +83,13 @@ fn sizes(range: u8, tsz: u8) -> Checked {
 }
 
 /// Refusal 4.
-fn root(range: u8, root: PhysAddr) -> Checked {
-    if unaligned(root.0) {
-        return Err(Problem::RootUnaligned { range, root });
+fn root(granule: Granule, range: u8, root: PhysAddr) -> Checked {
+    if unaligned(granule, root.0) {
+        return Err(Problem::RootUnaligned {
+            range,
+            root,
+            granule,
+        });
     }
     if root.0 >= PHYSICAL_LIMIT {
         return Err(Problem::RootTooHigh { range, root });
@@ -131,18 +133,22 @@ fn access_size(access: &Access) -> Checked {
 }
 
 /// Refusal 7. Where the size is 0, the last byte is the first.
-fn page_crossing(access: &Access) -> Checked {
+fn page_crossing(granule: Granule, access: &Access) -> Checked {
     let first = access.address;
     let last = VirtAddr(first.0.wrapping_add(access.size.saturating_sub(1)));
-    if first.0 / PAGE != last.0 / PAGE {
-        return Err(Problem::PageCrossing { first, last });
+    if first.0 / granule.bytes() != last.0 / granule.bytes() {
+        return Err(Problem::PageCrossing {
+            first,
+            last,
+            granule,
+        });
     }
     Ok(())
 }
 
-/// Whether a number is no multiple of 4,096.
-fn unaligned(number: u64) -> bool {
-    number % PAGE != 0
+/// Whether a number is no multiple of the granule.
+fn unaligned(granule: Granule, number: u64) -> bool {
+    number % granule.bytes() != 0
 }
 
 /// Where so many bytes end; the sum does not wrap.

@@ -32,7 +32,8 @@ pub struct Regime {
     pub hpd0: u8,
     pub hpd1: u8,
     pub ee: u8,
-    pub spare: [u8; 5],
+    pub granule: u8,
+    pub spare: [u8; 4],
 }
 
 #[repr(C)]
@@ -107,7 +108,7 @@ layout!(
     Regime: 64,
     start: 0, length: 8, address: 16, root0: 24, root1: 32, attributes: 40,
     tsz0: 48, tsz1: 49, disabled0: 50, disabled1: 51, output: 52,
-    ha: 53, hd: 54, wxn: 55, hpd0: 56, hpd1: 57, ee: 58, spare: 59
+    ha: 53, hd: 54, wxn: 55, hpd0: 56, hpd1: 57, ee: 58, granule: 59, spare: 60
 );
 layout!(Access: 24, address: 0, size: 8, el0: 16, kind: 17, spare: 18);
 layout!(

@@ -1,5 +1,6 @@
 //! Stage 1 translation of an Arm guest's addresses, for the emulated devices
-//! of a monitor: VMSAv8-64, EL1&0 regime, 4 KiB granule, 48 bits of output.
+//! of a monitor: VMSAv8-64, EL1&0 regime, granules of 4, 16 and 64 KiB, 48 bits
+//! of output.
 //!
 //! A device that reads or writes guest memory asks [`walk`], or a [`Session`]
 //! that holds translations, for the physical address. The walk obeys the
@@ -59,6 +60,8 @@
 //!
 //! - Top-byte-ignore (TCR_EL1.TBI0, TBI1) and tagged addresses
 //! - 52-bit addresses (FEAT_LPA, FEAT_LPA2)
+//! - Different granules for the two ranges (TCR_EL1.TG0, TG1)
+//! - A root that is aligned to its own small table, and not to the granule
 //! - Dirty state management without that of the Access flag (TCR_EL1.HD 1, HA 0)
 //! - Attribute byte 0xF0 (FEAT_MTE2), and those of FEAT_XS with one half zero
 //! - PAN and EPAN; E0PD0, E0PD1, NFD0 and NFD1
@@ -72,7 +75,7 @@
 //! - Alignment checking of Normal memory (SCTLR_EL1.A)
 //! - Stage 1 switched off (SCTLR_EL1.M 0)
 //! - 128-bit descriptors (FEAT_D128), VMSAv8-32
-//! - Until they are added: ASIDs, granules of 16 KiB and 64 KiB, stage 2
+//! - Until they are added: ASIDs, stage 2
 //!
 //! Most of these are settings that the library is not told of: it walks the
 //! tables all the same, and its answer need not be the hardware's.
@@ -146,6 +149,7 @@ mod address;
 mod answer;
 mod check;
 mod ffi;
+mod granule;
 mod problem;
 mod refusal;
 mod regime;
@@ -154,6 +158,7 @@ mod session;
 pub use access::{Access, AccessKind, ExceptionLevel};
 pub use address::{PhysAddr, VirtAddr};
 pub use answer::{Answer, Fault, FaultKind, Shareability, Stop, Translation};
+pub use granule::Granule;
 pub use problem::Problem;
 pub use refusal::Refusal;
 pub use regime::{OutputSize, Pool, Range, Regime};
@@ -162,12 +167,12 @@ pub use session::Session;
 /// The most bytes of a lent memory.
 pub const MEMORY_LIMIT: usize = 16_777_216;
 
-/// The most bytes of a pool. The last descriptor of such a pool is at offset
-/// `POOL_LIMIT - 8`.
+/// The most bytes of a pool: 256 tables of 4 KiB, 64 of 16 KiB, or 16 of
+/// 64 KiB. The last descriptor of such a pool is at offset `POOL_LIMIT - 8`.
 pub const POOL_LIMIT: usize = 1_048_576;
 
 /// The version of the C interface that this crate speaks.
-pub const VERSION: u32 = 8;
+pub const VERSION: u32 = 9;
 
 /// The version of the library that is linked in; to be [`VERSION`].
 pub fn version() -> u32 {
@@ -181,8 +186,9 @@ pub fn version() -> u32 {
 /// bit 62 above it) also clears AP\[2\]. A probe changes nothing, and so does
 /// whatever stops the walk. The tables on the way take permissions away from
 /// the leaf, unless [`Range::hpd`](Range::hpd()) is on. Descriptors are read
-/// and marked in the byte order of [`Regime::ee`](Regime::ee()). [`Refusal`]
-/// has the order of the checks.
+/// and marked in the byte order of [`Regime::ee`](Regime::ee()), and tables have
+/// the shape of [`Regime::granule`](Regime::granule()). [`Refusal`] has the
+/// order of the checks.
 ///
 /// ```
 /// use vmsa::{walk, Access, Refusal, Regime, Stop, VirtAddr};

@@ -3,8 +3,8 @@
 use std::error::Error;
 use std::fmt;
 
-use crate::check::{end, PAGE};
-use crate::{PhysAddr, Refusal, VirtAddr, MEMORY_LIMIT, POOL_LIMIT};
+use crate::check::end;
+use crate::{Granule, PhysAddr, Refusal, VirtAddr, MEMORY_LIMIT, POOL_LIMIT};
 
 /// One cause of a refusal, with the value at fault.
 ///
@@ -38,15 +38,19 @@ pub enum Problem {
         /// Bytes of the memory.
         length: usize,
     },
-    /// The pool's start is not a multiple of 4,096.
+    /// The pool's start is not a multiple of the granule.
     PoolStartUnaligned {
         /// The pool's start.
         start: usize,
+        /// The regime's granule.
+        granule: Granule,
     },
-    /// The pool's length is not a multiple of 4,096.
+    /// The pool's length is not a multiple of the granule.
     PoolLengthUnaligned {
         /// Bytes of the pool.
         length: usize,
+        /// The regime's granule.
+        granule: Granule,
     },
     /// The pool's length is 0.
     PoolEmpty,
@@ -64,10 +68,12 @@ pub enum Problem {
         /// Bytes of the memory.
         memory: usize,
     },
-    /// The pool's address is not a multiple of 4,096.
+    /// The pool's address is not a multiple of the granule.
     PoolAddressUnaligned {
         /// The pool's address.
         address: PhysAddr,
+        /// The regime's granule.
+        granule: Granule,
     },
     /// The pool's addresses end above 2^48.
     PoolAddressTooHigh {
@@ -83,12 +89,14 @@ pub enum Problem {
         /// Its T.
         tsz: u8,
     },
-    /// The root of a range is not a multiple of 4,096.
+    /// The root of a range is not a multiple of the granule.
     RootUnaligned {
         /// The range, 0 or 1.
         range: u8,
         /// Its root.
         root: PhysAddr,
+        /// The regime's granule.
+        granule: Granule,
     },
     /// The root of a range is not below 2^48.
     RootTooHigh {
@@ -126,12 +134,14 @@ pub enum Problem {
         /// The size.
         size: u64,
     },
-    /// First and last byte lie in different pages.
+    /// First and last byte lie in different pages of the granule.
     PageCrossing {
         /// The first byte.
         first: VirtAddr,
         /// The last byte, modulo 2^64.
         last: VirtAddr,
+        /// The regime's granule.
+        granule: Granule,
     },
 }
 
@@ -161,6 +171,15 @@ impl Problem {
     }
 }
 
+/// That a number, named in words, is no multiple of the granule.
+fn no_multiple(
+    f: &mut fmt::Formatter<'_>,
+    granule: Granule,
+    named: fmt::Arguments<'_>,
+) -> fmt::Result {
+    write!(f, "{named}, is no multiple of {}", granule.bytes())
+}
+
 impl fmt::Display for Problem {
     fn fmt(&self, f: &mut fmt::Formatter<'_>) -> fmt::Result {
         write!(f, "refused with {}: ", self.refusal().number())?;
@@ -169,11 +188,11 @@ impl fmt::Display for Problem {
                 f,
                 "the memory's length, {length}, is above its limit, {MEMORY_LIMIT}"
             ),
-            Self::PoolStartUnaligned { start } => {
-                write!(f, "the pool's start, {start}, is no multiple of {PAGE}")
+            Self::PoolStartUnaligned { start, granule } => {
+                no_multiple(f, granule, format_args!("the pool's start, {start}"))
             }
-            Self::PoolLengthUnaligned { length } => {
-                write!(f, "the pool's length, {length}, is no multiple of {PAGE}")
+            Self::PoolLengthUnaligned { length, granule } => {
+                no_multiple(f, granule, format_args!("the pool's length, {length}"))
             }
             Self::PoolEmpty => f.write_str("the pool's length is 0"),
             Self::PoolTooLong { length } => write!(
@@ -191,8 +210,8 @@ impl fmt::Display for Problem {
                     "the pool's end, {end}, is past the end of the memory, {memory}"
                 )
             }
-            Self::PoolAddressUnaligned { address } => {
-                write!(f, "the pool's address, {address}, is no multiple of {PAGE}")
+            Self::PoolAddressUnaligned { address, granule } => {
+                no_multiple(f, granule, format_args!("the pool's address, {address}"))
             }
             Self::PoolAddressTooHigh { address, length } => {
                 let end = end(address.0, length);
@@ -201,9 +220,14 @@ impl fmt::Display for Problem {
             Self::TszOutOfBounds { range, tsz } => {
                 write!(f, "T of range {range}, {tsz}, is outside 16 to 39")
             }
-            Self::RootUnaligned { range, root } => write!(
+            Self::RootUnaligned {
+                range,
+                root,
+                granule,
+            } => no_multiple(
                 f,
-                "the root of range {range}, {root}, is no multiple of {PAGE}"
+                granule,
+                format_args!("the root of range {range}, {root}"),
             ),
             Self::RootTooHigh { range, root } => {
                 write!(f, "the root of range {range}, {root}, is not below 2^48")
@@ -220,9 +244,15 @@ impl fmt::Display for Problem {
                 write!(f, "the address of a fetch, {address}, is no multiple of 4")
             }
             Self::ProbeSize { size } => write!(f, "the size of a probe, {size}, is not 1"),
-            Self::PageCrossing { first, last } => write!(
+            Self::PageCrossing {
+                first,
+                last,
+                granule,
+            } => write!(
                 f,
-                "the first byte, {first}, and the last, {last}, lie in different pages"
+                "the first byte, {first}, and the last, {last}, \
+                 lie in different pages of {} bytes",
+                granule.bytes()
             ),
         }
     }

@@ -91,18 +91,19 @@ refusals! {
     #[non_exhaustive]
     enum Refusal;
 
-    /// 1: memory above its limit; pool start or length not a multiple of
-    /// 4,096; pool empty, above its limit, or past the end of the memory.
+    /// 1: memory above its limit; pool start or length not a multiple of the
+    /// granule; pool empty, above its limit, or past the end of the memory.
     MemoryPool = 1: "the memory or the pool's part of it is out of bounds";
 
-    /// 2: pool address not a multiple of 4,096, or the pool ends above 2^48.
+    /// 2: pool address not a multiple of the granule, or the pool ends above
+    /// 2^48.
     PoolAddress = 2: "the pool's physical address is out of bounds";
 
     /// 3: T of a range outside 16 to 39. (An output size code out of bounds
     /// too; no [`OutputSize`](crate::OutputSize) is one.)
     Sizes = 3: "a size field of the regime is out of bounds";
 
-    /// 4: a root that is not a multiple of 4,096, or not below 2^48.
+    /// 4: a root that is not a multiple of the granule, or not below 2^48.
     Root = 4: "a root is unaligned or not below 2^48";
 
     /// 5: an attribute byte is neither 0x00, 0x04, 0x08, 0x0C (Device) nor has
@@ -113,7 +114,7 @@ refusals! {
     /// a multiple of 4; a probe whose size is not 1.
     AccessSize = 6: "the size or alignment does not fit the kind of access";
 
-    /// 7: first and last byte lie in different pages.
+    /// 7: first and last byte lie in different pages of the granule.
     PageCrossing = 7: "the access crosses a page boundary";
 
     /// 8: a store's address is not a multiple of 8, or its bytes are not all

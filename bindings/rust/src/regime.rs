@@ -1,6 +1,6 @@
 //! The translation regime, built up setting by setting.
 
-use crate::{check, ffi, PhysAddr, Problem};
+use crate::{check, ffi, Granule, PhysAddr, Problem};
 
 /// The table pool: its part of the lent memory, and the physical address of
 /// its first byte.
@@ -9,11 +9,12 @@ use crate::{check, ffi, PhysAddr, Problem};
 /// `start + (a - address)` of the memory.
 #[derive(Clone, Copy, Debug, Default, PartialEq, Eq, Hash)]
 pub struct Pool {
-    /// Offset of the pool in the memory, a multiple of 4,096.
+    /// Offset of the pool in the memory, a multiple of the granule.
     pub start: usize,
-    /// Bytes of the pool: a multiple of 4,096, at most [`crate::POOL_LIMIT`].
+    /// Bytes of the pool: a multiple of the granule, at most
+    /// [`crate::POOL_LIMIT`].
     pub length: usize,
-    /// Physical address of the first byte, a multiple of 4,096.
+    /// Physical address of the first byte, a multiple of the granule.
     pub address: PhysAddr,
 }
 
@@ -33,7 +34,7 @@ impl Pool {
 #[derive(Clone, Copy, Debug, PartialEq, Eq, Hash)]
 #[must_use = "a setting hands the range back"]
 pub struct Range {
-    /// The root table.
+    /// The root table: a multiple of the granule.
     pub root: PhysAddr,
     /// The size field T, 16 to 39: addresses have `64 - tsz` bits.
     pub tsz: u8,
@@ -214,13 +215,16 @@ pub struct Regime {
     pub wxn: bool,
     /// Whether descriptors are big-endian; see [`ee`](Self::ee()).
     pub ee: bool,
+    /// The bytes of a page and of a table; see [`granule`](Self::granule()).
+    pub granule: Granule,
     /// The bytes of MAIR_EL1, the lowest first.
     pub attributes: [u8; 8],
 }
 
 impl Regime {
     /// No pool yet, both ranges disabled and HPD off, 48 bits of output, no
-    /// updates, little-endian descriptors, and Device memory only.
+    /// updates, little-endian descriptors, a granule of 4 KiB, and Device memory
+    /// only.
     pub const fn new() -> Self {
         Self {
             pool: Pool::new(0, 0, PhysAddr(0)),
@@ -231,6 +235,7 @@ impl Regime {
             hd: false,
             wxn: false,
             ee: false,
+            granule: Granule::Kib4,
             attributes: [0; 8],
         }
     }
@@ -334,6 +339,41 @@ impl Regime {
         self
     }
 
+    /// Sets the granule, which is that of both ranges (TCR_EL1.TG0, TG1).
+    ///
+    /// The levels and their index bits go by it ([`Granule`]), and so does
+    /// whatever goes by pages: the pool and the roots are multiples of it, an
+    /// access lies in one page of it, and a session holds pages of it.
+    ///
+    /// ```
+    /// use vmsa::{walk, Access, Granule, PhysAddr, Pool, Range, Refusal, Regime, Stop, VirtAddr};
+    ///
+    /// // A table of level 3 whose second entry maps a page of 64 KiB.
+    /// let mut memory = vec![0; 0x1_0000];
+    /// memory[8..16].copy_from_slice(&0x8001_0703_u64.to_le_bytes());
+    ///
+    /// let root = PhysAddr(0x4000_0000);
+    /// let regime = Regime::new()
+    ///     .pool(Pool::new(0, 0x1_0000, root))
+    ///     .range0(Range::new(root, 39))
+    ///     .granule(Granule::Kib64)
+    ///     .attributes([0xff; 8]);
+    ///
+    /// // It passes a multiple of 4,096, and stays in its page.
+    /// let read = Access::read(VirtAddr(0x1_2ffc), 8);
+    /// let found = walk(&mut memory, &regime, &read)?;
+    /// assert_eq!(found.output, PhysAddr(0x8001_2ffc));
+    /// assert_eq!((found.level, found.reads), (3, 1));
+    ///
+    /// let refused = walk(&mut memory, &regime.granule(Granule::Kib4), &read);
+    /// assert_eq!(refused, Err(Stop::Refused(Refusal::PageCrossing)));
+    /// # Ok::<(), Stop>(())
+    /// ```
+    pub const fn granule(mut self, granule: Granule) -> Self {
+        self.granule = granule;
+        self
+    }
+
     /// Sets every attribute byte.
     pub const fn attributes(mut self, attributes: [u8; 8]) -> Self {
         self.attributes = attributes;
@@ -409,7 +449,8 @@ impl From<&Regime> for ffi::Regime {
             hpd0: regime.range0.hpd.into(),
             hpd1: regime.range1.hpd.into(),
             ee: regime.ee.into(),
-            spare: [0; 5],
+            granule: regime.granule.tg0(),
+            spare: [0; 4],
         }
     }
 }

@@ -7,8 +7,9 @@ use crate::{ffi, Access, Answer, PhysAddr, Refusal, Regime};
 
 /// A session: the regime last accepted, and 64 TLB entries.
 ///
-/// A page's entry is the one of its number mod 64. It holds the page's leaf as
-/// the walk left it, and what the tables on the way to it take away
+/// A page's entry is the one of its number mod 64, counted in pages of the
+/// regime's [granule](Regime::granule()). It holds the page's leaf as the walk
+/// left it, and what the tables on the way to it take away
 /// ([`Range::hpd`](crate::Range::hpd())) as the walk met them. A page held
 /// there is answered with 0 reads, unless the access would mark it dirty; that
 /// walks again. Between a [`store`](Session::store) and the next access, call

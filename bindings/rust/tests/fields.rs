@@ -8,8 +8,8 @@ use tables::{
     NO_EL0, NO_EL0_FETCH, NO_EL1_FETCH, NO_WRITE, POOL, TABLES,
 };
 use vmsa::{
-    Access, AccessKind, Answer, Fault, FaultKind, OutputSize, PhysAddr, Pool, Range, Refusal,
-    Regime, Shareability, Stop, Translation, VirtAddr,
+    Access, AccessKind, Answer, Fault, FaultKind, Granule, OutputSize, PhysAddr, Pool, Range,
+    Refusal, Regime, Shareability, Stop, Translation, VirtAddr,
 };
 
 const AP1: u64 = 1 << 6;
@@ -281,6 +281,30 @@ fn ee() {
         assert_eq!(output(asked(&big, true)), 0x8000_5abc);
         assert_eq!(code(asked(&little, true)), 4);
         assert_eq!(code(asked(&big, false)), 4);
+    }
+}
+
+#[test]
+fn granule() {
+    // One for the tables of both ranges. With T 39 an address has another entry
+    // of the root, its leaf, for each.
+    let mut memory = vec![0; 0x1_0000];
+    put(&mut memory, 0x00, 0x8000_5000 | AF | AP1 | 1);
+    put(&mut memory, 0x20, 0x8000_5000 | AF | AP1 | 3);
+    put(&mut memory, 0x08, 0x8000_5000 | AF | AP1 | 3);
+    let range = Range::new(PhysAddr(POOL), 39);
+    let regime = regime().range0(range).range1(range);
+    assert_eq!(regime.granule, Granule::Kib4);
+    for address in [0x1_2340, 0xffff_ffff_fe01_2340] {
+        let read = Access::read(VirtAddr(address), 4).el0();
+        for (granule, level, frame) in [
+            (Granule::Kib4, 2, 0x8001_2340),
+            (Granule::Kib16, 3, 0x8000_6340),
+            (Granule::Kib64, 3, 0x8000_2340),
+        ] {
+            let found = ask(&memory, &regime.granule(granule), &read).unwrap();
+            assert_eq!((found.level, found.output.0), (level, frame));
+        }
     }
 }
 

@@ -6,8 +6,8 @@ mod tables;
 
 use tables::{get, put, regime, walk, Both, CLEAN, EXTERNAL_ABORT, POOL};
 use vmsa::{
-    Access, Answer, PhysAddr, Pool, Refusal, Regime, Session, Stop, VirtAddr, MEMORY_LIMIT,
-    POOL_LIMIT,
+    Access, Answer, Granule, PhysAddr, Pool, Refusal, Regime, Session, Stop, VirtAddr,
+    MEMORY_LIMIT, POOL_LIMIT,
 };
 
 /// Where the pool starts: with the memory, or so that both end together.
@@ -132,6 +132,9 @@ fn one_byte_more_of_memory() {
 #[test]
 fn one_page_more_of_pool() {
     let mut room = room_of(0);
-    refused(&mut room[..MEMORY_LIMIT], &of(0, POOL_LIMIT + 0x1000));
+    for granule in Granule::ALL {
+        let longer = of(0, POOL_LIMIT + granule.bytes() as usize);
+        refused(&mut room[..MEMORY_LIMIT], &longer.granule(granule));
+    }
     assert!(room == room_of(0));
 }

@@ -9,8 +9,8 @@ use std::mem::discriminant;
 
 use tables::{read, regime, Random, POOL};
 use vmsa::{
-    walk, Access, AccessKind, PhysAddr, Pool, Problem, Refusal, Regime, Session, Stop, VirtAddr,
-    MEMORY_LIMIT, POOL_LIMIT,
+    walk, Access, AccessKind, Granule, PhysAddr, Pool, Problem, Refusal, Regime, Session, Stop,
+    VirtAddr, MEMORY_LIMIT, POOL_LIMIT,
 };
 
 const TOP: u64 = 1 << 48;
@@ -45,28 +45,34 @@ impl Question {
     /// A walk's first problem: the regime comes before the access.
     fn problem(&self) -> Option<Problem> {
         let regime = self.regime.check(self.memory);
-        regime.and_then(|()| self.access.check()).err()
+        regime
+            .and_then(|()| self.access.check(self.regime.granule))
+            .err()
     }
 }
 
 /// The library, over a memory of zeros: no descriptor is valid, and no call
-/// changes it.
+/// changes it. A session for each granule.
 struct Library {
     memory: Vec<u8>,
-    session: Session,
+    sessions: [(Granule, Session); 3],
 }
 
 impl Library {
     fn new() -> Self {
         let memory = vec![0; MEMORY_LIMIT + 4096];
-        let mut session = Session::new();
         let Question {
             memory: lent,
             regime,
             ..
         } = question();
-        session.set_regime(&memory[..lent], &regime).unwrap();
-        Self { memory, session }
+        let sessions = Granule::ALL.map(|granule| {
+            let mut session = Session::new();
+            let set = session.set_regime(&memory[..lent], &regime.granule(granule));
+            set.unwrap();
+            (granule, session)
+        });
+        Self { memory, sessions }
     }
 
     /// Holds both checks against the three calls that make them.
@@ -82,9 +88,12 @@ impl Library {
         assert_eq!(found, given.err().and_then(Stop::refusal), "{question:?}");
 
         let lent = &mut self.memory[..POOL_LIMIT];
-        let given = self.session.access(lent, &question.access);
-        let found = question.access.check().err().map(Problem::refusal);
-        assert_eq!(found, given.err().and_then(Stop::refusal), "{question:?}");
+        for (granule, session) in &mut self.sessions {
+            let given = session.access(lent, &question.access);
+            let found = question.access.check(*granule);
+            let found = found.err().map(Problem::refusal);
+            assert_eq!(found, given.err().and_then(Stop::refusal), "{question:?}");
+        }
     }
 }
 
@@ -196,7 +205,7 @@ const CAUSES: [(Change, Refusal, &str); 21] = [
     (
         |q| q.access = Access::read(VirtAddr(0x40_3ffd), 4),
         Refusal::PageCrossing,
-        "the first byte, 0x403ffd, and the last, 0x404000, lie in different pages",
+        "the first byte, 0x403ffd, and the last, 0x404000, lie in different pages of 4096 bytes",
     ),
 ];
 
@@ -230,6 +239,48 @@ fn words() {
     assert_eq!(error.to_string(), "refused with 1: the pool's length is 0");
 }
 
+/// Causes that go by the granule: the words, with its bytes by their name.
+const OF_GRANULES: [(Change, &str); 6] = [
+    (
+        |q| q.regime.pool.start = 2048,
+        "the pool's start, 2048, is no multiple of BYTES",
+    ),
+    (
+        |q| q.regime.pool.length = 2048,
+        "the pool's length, 2048, is no multiple of BYTES",
+    ),
+    (
+        |q| q.regime.pool.address = PhysAddr(2048),
+        "the pool's address, 0x800, is no multiple of BYTES",
+    ),
+    (
+        |q| q.regime.range0.root = PhysAddr(2048),
+        "the root of range 0, 0x800, is no multiple of BYTES",
+    ),
+    (
+        |q| q.regime.range1.root = PhysAddr(2048),
+        "the root of range 1, 0x800, is no multiple of BYTES",
+    ),
+    (
+        |q| q.access = Access::read(VirtAddr(0xffff), 2),
+        "the first byte, 0xffff, and the last, 0x10000, lie in different pages of BYTES bytes",
+    ),
+];
+
+#[test]
+fn words_by_the_granule() {
+    for granule in Granule::ALL {
+        let bytes = granule.bytes().to_string();
+        for (change, words) in OF_GRANULES {
+            let mut question = changed(&[change]);
+            question.regime.granule = granule;
+            let problem = question.problem().unwrap().to_string();
+            let words = words.replace("BYTES", &bytes);
+            assert!(problem.ends_with(&words), "{problem}, not {words}");
+        }
+    }
+}
+
 #[test]
 fn values_to_match_on() {
     let pool = Pool::new(0x1000, POOL_LIMIT, PhysAddr(TOP - 0x1000));
@@ -250,10 +301,11 @@ fn values_to_match_on() {
         })
     );
     assert_eq!(
-        Access::read(VirtAddr(u64::MAX), 2).check(),
+        Access::read(VirtAddr(u64::MAX), 2).check(Granule::Kib16),
         Err(Problem::PageCrossing {
             first: VirtAddr(u64::MAX),
             last: VirtAddr(0),
+            granule: Granule::Kib16,
         })
     );
 }
@@ -391,11 +443,40 @@ fn at_every_limit() {
     }
 }
 
+#[test]
+fn at_every_limit_of_a_granule() {
+    type Set = fn(&mut Question, u64);
+    let sets: [Set; 6] = [
+        |q, n| (q.memory, q.regime.pool.start) = (MEMORY_LIMIT, n as usize),
+        |q, n| q.regime.pool.length = n as usize,
+        |q, n| q.regime.pool.address = PhysAddr(n),
+        |q, n| q.regime.range0.root = PhysAddr(n),
+        |q, n| q.regime.range1.root = PhysAddr(TOP - n),
+        |q, n| q.access = Access::read(VirtAddr(n - 4), 8),
+    ];
+    let mut library = Library::new();
+    for granule in Granule::ALL {
+        for (place, set) in sets.into_iter().enumerate() {
+            for bit in 11..=17 {
+                let mut question = question();
+                question.regime.granule = granule;
+                set(&mut question, 1 << bit);
+                library.agrees(&question);
+                // A multiple of the granule is well, but as a boundary.
+                let multiple = bit >= granule.page_bits();
+                let well = multiple != (place + 1 == sets.len());
+                assert_eq!(question.problem().is_none(), well, "{question:?}");
+            }
+        }
+    }
+}
+
 /// A number that is often at a limit.
 fn edge(random: &mut Random) -> u64 {
+    let granule = random.pick(&Granule::ALL).bytes();
     let limits = [
         0,
-        0x1000,
+        granule,
         POOL_LIMIT as u64,
         MEMORY_LIMIT as u64,
         POOL,
@@ -405,12 +486,12 @@ fn edge(random: &mut Random) -> u64 {
     let limit = random.pick(&limits);
     match random.below(8) {
         0 => random.next(),
-        1 => random.next() & !0xfff,
-        2 => random.below(MEMORY_LIMIT as u64) & !0xfff,
+        1 => random.next() & !(granule - 1),
+        2 => random.below(MEMORY_LIMIT as u64) & !(granule - 1),
         3 => limit.wrapping_sub(random.below(20)),
         4 => limit.wrapping_add(random.below(20)),
         5 => limit.wrapping_sub(POOL_LIMIT as u64),
-        6 => limit.wrapping_sub(0x1000),
+        6 => limit.wrapping_sub(granule),
         _ => limit,
     }
 }
@@ -420,7 +501,7 @@ fn change(question: &mut Question, random: &mut Random) {
     let number = edge(random);
     let regime = &mut question.regime;
     let tsz = random.pick(&[0, 15, 16, 25, 39, 40, number as u8]);
-    match random.below(15) {
+    match random.below(16) {
         0 => question.memory = number as usize % (MEMORY_LIMIT + 4096),
         1 => regime.pool.start = number as usize,
         2 => regime.pool.length = number as usize,
@@ -435,15 +516,17 @@ fn change(question: &mut Question, random: &mut Random) {
         11 => question.access.kind = random.pick(&AccessKind::ALL),
         // A pool that mostly fits, in a memory that may be shorter.
         12 => {
-            let pages = (POOL_LIMIT >> 12) + 3 - random.below(20) as usize;
+            let bits = regime.granule.page_bits();
+            let pages = (POOL_LIMIT >> bits) + 3 - random.below(20) as usize;
             question.memory = MEMORY_LIMIT - random.below(3) as usize;
-            regime.pool.length = pages << 12;
-            regime.pool.start = MEMORY_LIMIT - (pages << 12);
+            regime.pool.length = pages << bits;
+            regime.pool.start = MEMORY_LIMIT - (pages << bits);
         }
         13 => {
             regime.ha = random.below(2) == 0;
             regime.hd = random.below(2) == 0;
         }
+        14 => regime.granule = random.pick(&Granule::ALL),
         _ => {
             regime.range0.disabled = random.below(2) == 0;
             regime.range1.disabled = random.below(2) == 0;
@@ -463,12 +546,17 @@ fn has(question: &Question, problem: Problem) -> bool {
     } = question;
     let pool = regime.pool;
     let ranges = [regime.range0, regime.range1];
+    let within = regime.granule.bytes() - 1;
     let fetch = access.kind == AccessKind::Fetch;
     let probe = matches!(access.kind, AccessKind::ProbeRead | AccessKind::ProbeWrite);
     match problem {
         Problem::MemoryTooLong { length } => length == *memory && length > MEMORY_LIMIT,
-        Problem::PoolStartUnaligned { start } => start == pool.start && start & 0xfff != 0,
-        Problem::PoolLengthUnaligned { length } => length == pool.length && length & 0xfff != 0,
+        Problem::PoolStartUnaligned { start, granule } => {
+            (start, granule) == (pool.start, regime.granule) && start as u64 & within != 0
+        }
+        Problem::PoolLengthUnaligned { length, granule } => {
+            (length, granule) == (pool.length, regime.granule) && length as u64 & within != 0
+        }
         Problem::PoolEmpty => pool.length == 0,
         Problem::PoolTooLong { length } => length == pool.length && length > POOL_LIMIT,
         Problem::PoolPastMemory {
@@ -479,8 +567,8 @@ fn has(question: &Question, problem: Problem) -> bool {
             (start, length, of) == (pool.start, pool.length, *memory)
                 && (start > of || length > of - start)
         }
-        Problem::PoolAddressUnaligned { address } => {
-            address == pool.address && address.0 & 0xfff != 0
+        Problem::PoolAddressUnaligned { address, granule } => {
+            (address, granule) == (pool.address, regime.granule) && address.0 & within != 0
         }
         Problem::PoolAddressTooHigh { address, length } => {
             (address, length) == (pool.address, pool.length)
@@ -489,8 +577,13 @@ fn has(question: &Question, problem: Problem) -> bool {
         Problem::TszOutOfBounds { range, tsz } => {
             tsz == ranges[usize::from(range)].tsz && !(16..=39).contains(&tsz)
         }
-        Problem::RootUnaligned { range, root } => {
-            root == ranges[usize::from(range)].root && root.0 & 0xfff != 0
+        Problem::RootUnaligned {
+            range,
+            root,
+            granule,
+        } => {
+            (root, granule) == (ranges[usize::from(range)].root, regime.granule)
+                && root.0 & within != 0
         }
         Problem::RootTooHigh { range, root } => {
             root == ranges[usize::from(range)].root && root.0 >> 48 != 0
@@ -505,10 +598,14 @@ fn has(question: &Question, problem: Problem) -> bool {
             fetch && address == access.address && address.0 & 3 != 0
         }
         Problem::ProbeSize { size } => probe && size == access.size && size != 1,
-        Problem::PageCrossing { first, last } => {
-            first == access.address
+        Problem::PageCrossing {
+            first,
+            last,
+            granule,
+        } => {
+            (first, granule) == (access.address, regime.granule)
                 && last.0.wrapping_sub(first.0) == access.size - 1
-                && first.0 & !0xfff != last.0 & !0xfff
+                && first.0 & !within != last.0 & !within
         }
         _ => false,
     }
@@ -528,7 +625,7 @@ fn over_random_questions() {
         library.agrees(&question);
         let found = [
             question.regime.check(question.memory).err(),
-            question.access.check().err(),
+            question.access.check(question.regime.granule).err(),
         ];
         for problem in found.into_iter().flatten() {
             assert!(has(&question, problem), "{problem:?} of {question:?}");

@@ -1,5 +1,5 @@
 //! Sessions: a script with every call, in both byte orders, what a turned EE
-//! leaves, and long random lists held against the plain walk.
+//! leaves, and long random lists, of every granule, held against the plain walk.
 
 mod tables;
 
@@ -8,8 +8,8 @@ use tables::{
     LENGTH, NO_EL0, NO_WRITE, POOL, TABLES,
 };
 use vmsa::{
-    walk, Access, AccessKind, Answer, FaultKind, PhysAddr, Pool, Range, Refusal, Regime, Session,
-    Stop, VirtAddr,
+    walk, Access, AccessKind, Answer, FaultKind, Granule, PhysAddr, Pool, Range, Refusal, Regime,
+    Session, Stop, VirtAddr,
 };
 
 const AP2: u64 = 1 << 7;
@@ -266,20 +266,129 @@ fn same_calls_same_session() {
     assert!(memories[0] == memories[1]);
 }
 
-/// A descriptor that often leads somewhere: a table in the pool (a page at
-/// level 3), or a block, with any permissions. One in four has something in
-/// bits 63 to 59.
-fn descriptor(random: &mut Random) -> u64 {
-    let table = match random.below(4) {
-        0 => random.next() & 0xf800_0000_0000_0000,
-        _ => 0,
-    };
-    let bits = table | random.next() & 0x0068_0000_0000_0ffc;
-    match random.below(32) {
-        0 => random.next(),
-        1 => 0,
-        2..=20 => (POOL + 0x1000 * random.below(17)) | bits | 3,
-        _ => 0x8000_0000 | random.below(0x10000) << 12 | bits | 1,
+/// What the tables of a list are like; most of its regimes are so too.
+#[derive(Clone, Copy)]
+struct Kind {
+    ee: bool,
+    granule: Granule,
+}
+
+impl Kind {
+    /// Those of a list, by its number: most have 4 KiB.
+    fn of(list: usize) -> Self {
+        Self {
+            ee: list % 2 == 1,
+            granule: match list % 5 {
+                3 => Granule::Kib16,
+                4 => Granule::Kib64,
+                _ => Granule::Kib4,
+            },
+        }
+    }
+
+    /// Bytes of a page.
+    fn unit(self) -> u64 {
+        self.granule.bytes()
+    }
+
+    /// Pages of the pool.
+    fn pages(self) -> u64 {
+        match self.granule {
+            Granule::Kib4 => 16,
+            Granule::Kib16 => 5,
+            Granule::Kib64 => 2,
+        }
+    }
+
+    /// Now and then past the pool.
+    fn any_page(self, random: &mut Random) -> u64 {
+        self.unit() * random.below(self.pages() + 1)
+    }
+
+    /// The byte order; one in 16 is the other.
+    fn order(self, random: &mut Random) -> bool {
+        self.ee != (random.below(16) == 0)
+    }
+
+    /// A descriptor that often leads somewhere: a table in the pool (a page at
+    /// level 3), or a block, with any permissions. One in four has something in
+    /// bits 63 to 59.
+    fn descriptor(self, random: &mut Random) -> u64 {
+        let table = match random.below(4) {
+            0 => random.next() & 0xf800_0000_0000_0000,
+            _ => 0,
+        };
+        let bits = table | random.next() & 0x0068_0000_0000_0ffc;
+        match random.below(32) {
+            0 => random.next(),
+            1 => 0,
+            2..=20 => (POOL + self.any_page(random)) | bits | 3,
+            _ => 0x8000_0000 | random.below(0x10000) << 12 | bits | 1,
+        }
+    }
+
+    /// A pool with a page before it and one behind it.
+    fn memory(self, random: &mut Random) -> Vec<u8> {
+        let pages = self.pages() + 2;
+        let mut memory = vec![0; (self.unit() * pages) as usize];
+        for slot in 0..32 {
+            for page in 0..pages {
+                let (ee, descriptor) = (self.order(random), self.descriptor(random));
+                let offset = self.unit() * page + 8 * slot;
+                put_in(ee, &mut memory, offset as usize, descriptor);
+            }
+        }
+        memory
+    }
+
+    fn regime(self, random: &mut Random) -> Regime {
+        let tsz = random.pick(&[16, 20, 25, 34, 36, 39, 15]);
+        let root = POOL + self.unit() * random.below(self.pages());
+        let range = Range::new(PhysAddr(root), tsz);
+        let (start, length) = (self.unit(), self.unit() * self.pages());
+        let pool = Pool::new(start as usize, length as usize, PhysAddr(POOL));
+        let (ha, hd) = updates(random);
+        let granule = match random.below(16) {
+            0 => random.pick(&Granule::ALL),
+            _ => self.granule,
+        };
+        regime()
+            .pool(pool)
+            .range0(range.hpd(random.below(4) == 0))
+            .range1(range.hpd(random.below(4) == 0))
+            .ha(ha)
+            .hd(hd)
+            .wxn(random.below(4) == 0)
+            .ee(self.order(random))
+            .granule(granule)
+            .attribute(random.below(8) as usize, 0x04)
+    }
+
+    /// Indexes 0 to 2 at each level, mostly inside the regime's range.
+    fn access(self, random: &mut Random, regime: Option<Regime>) -> Access {
+        let bits = self.granule.page_bits();
+        let mut low = random.below(self.unit());
+        for level in 0..4 {
+            low |= random.below(3) << (bits + level * (bits - 3)).min(47);
+        }
+        let bits = match regime {
+            Some(regime) if random.below(8) != 0 => 64 - regime.range0.tsz,
+            _ => 48,
+        };
+        let mask = (1 << bits) - 1;
+        let top = random.pick(&[0, 0, 0, !mask]);
+        let kind = random.pick(&AccessKind::ALL);
+        let size = match kind {
+            AccessKind::Fetch => 4,
+            AccessKind::ProbeRead | AccessKind::ProbeWrite => 1,
+            _ => 1 << random.below(5),
+        };
+        let address = (low & mask | top) & !(size - 1) | (random.below(16) / 15);
+        let access = Access::new(kind, VirtAddr(address), size);
+        match random.below(2) {
+            0 => access.el0(),
+            _ => access,
+        }
     }
 }
 
@@ -294,119 +403,99 @@ fn updates(random: &mut Random) -> (bool, bool) {
     (ha, hd)
 }
 
-/// The byte order of a list's tables; one in 16 is the other.
-fn order(random: &mut Random, ee: bool) -> bool {
-    ee != (random.below(16) == 0)
+/// What the lists have met: successes from an entry, dirty marks by EE,
+/// successes by granule, and faults.
+#[derive(Debug, Default)]
+struct Met {
+    held: u32,
+    dirtied: [u32; 2],
+    found: [u32; 3],
+    faults: u32,
 }
 
-/// A pool with a page before it and one behind it.
-fn any_memory(random: &mut Random, ee: bool) -> Vec<u8> {
-    let mut memory = vec![0; 0x12000];
-    for slot in 0..32 {
-        for page in 0..18 {
-            let (ee, descriptor) = (order(random, ee), descriptor(random));
-            put_in(ee, &mut memory, 0x1000 * page + 8 * slot, descriptor);
-        }
+impl Met {
+    fn note(&mut self, regime: &Regime, answer: Answer) {
+        let Ok(found) = answer else {
+            self.faults += 1;
+            return;
+        };
+        self.held += u32::from(found.reads == 0);
+        self.dirtied[usize::from(regime.ee)] += u32::from(found.dirtied);
+        self.found[regime.granule as usize] += 1;
     }
-    memory
 }
 
-fn any_regime(random: &mut Random, ee: bool) -> Regime {
-    let tsz = random.pick(&[16, 20, 25, 34, 36, 39, 15]);
-    let range = Range::new(PhysAddr(POOL + 0x1000 * random.below(16)), tsz);
-    let (ha, hd) = updates(random);
-    regime()
-        .pool(Pool::new(0x1000, 0x10000, PhysAddr(POOL)))
-        .range0(range.hpd(random.below(4) == 0))
-        .range1(range.hpd(random.below(4) == 0))
-        .ha(ha)
-        .hd(hd)
-        .wxn(random.below(4) == 0)
-        .ee(order(random, ee))
-        .attribute(random.below(8) as usize, 0x04)
+/// A random list of calls, each held against what it is to do.
+struct List {
+    kind: Kind,
+    memory: Vec<u8>,
+    session: Session,
+    last: Option<Regime>,
+}
+
+impl List {
+    fn set_regime(&mut self, random: &mut Random) {
+        let before = self.memory.clone();
+        let next = self.kind.regime(random);
+        if self.session.set_regime(&self.memory, &next).is_ok() {
+            self.last = Some(next);
+        }
+        assert!(self.memory == before);
+    }
+
+    fn store(&mut self, random: &mut Random) {
+        let mut expected = self.memory.clone();
+        let offset = self.kind.any_page(random) + 8 * random.below(32);
+        let value = self.kind.descriptor(random);
+        let address = PhysAddr(POOL + offset);
+        let answer = self.session.store(&mut self.memory, address, value);
+        if let (Ok(()), Some(regime)) = (answer, self.last) {
+            let offset = regime.pool.start + offset as usize;
+            put_in(regime.ee, &mut expected, offset, value);
+            self.session.invalidate_all();
+        }
+        assert!(self.memory == expected);
+    }
+
+    fn access(&mut self, random: &mut Random, met: &mut Met) {
+        let mut walked = self.memory.clone();
+        let access = self.kind.access(random, self.last);
+        let answer = self.session.access(&mut self.memory, &access);
+        if let Some(regime) = self.last {
+            let plain = walk(&mut walked, &regime, &access);
+            assert_eq!(uncounted(answer), uncounted(plain), "{access:?}");
+            met.note(&regime, answer);
+        } else {
+            assert_eq!(answer, Err(Stop::Refused(Refusal::NoRegime)));
+        }
+        assert!(self.memory == walked, "{access:?}");
+    }
 }
 
 #[test]
 fn as_the_plain_walk() {
     let mut random = Random(0x9e37_79b9_7f4a_7c15);
-    let (mut held, mut faults) = (0, 0);
-    let mut dirtied = [0; 2];
-    for list in 0..300 {
-        let ee = list % 2 == 1;
-        let mut memory = any_memory(&mut random, ee);
-        let mut session = Session::new();
-        let mut last = None;
+    let mut met = Met::default();
+    for number in 0..300 {
+        let kind = Kind::of(number);
+        let mut list = List {
+            kind,
+            memory: kind.memory(&mut random),
+            session: Session::new(),
+            last: None,
+        };
         for _ in 0..200 {
-            let before = memory.clone();
             match random.below(24) {
-                0 => {
-                    let next = any_regime(&mut random, ee);
-                    if session.set_regime(&memory, &next).is_ok() {
-                        last = Some(next);
-                    }
-                    assert!(memory == before);
-                }
-                1 => {
-                    let offset = 0x1000 * random.below(17) + 8 * random.below(32);
-                    let value = descriptor(&mut random);
-                    let answer = session.store(&mut memory, PhysAddr(POOL + offset), value);
-                    let mut expected = before;
-                    if answer.is_ok() {
-                        let ee = last.is_some_and(|regime| regime.ee);
-                        put_in(ee, &mut expected, 0x1000 + offset as usize, value);
-                        session.invalidate_all();
-                    }
-                    assert!(memory == expected);
-                }
-                _ => {
-                    // Indexes 0 to 2 at each level, mostly inside the range.
-                    let mut low = random.below(4096);
-                    for shift in [12, 21, 30, 39] {
-                        low |= random.below(3) << shift;
-                    }
-                    let bits = match last {
-                        Some(regime) if random.below(8) != 0 => 64 - regime.range0.tsz,
-                        _ => 48,
-                    };
-                    let mask = (1 << bits) - 1;
-                    let top = random.pick(&[0, 0, 0, !mask]);
-                    let kind = random.pick(&AccessKind::ALL);
-                    let size = match kind {
-                        AccessKind::Fetch => 4,
-                        AccessKind::ProbeRead | AccessKind::ProbeWrite => 1,
-                        _ => 1 << random.below(5),
-                    };
-                    let address =
-                        VirtAddr((low & mask | top) & !(size - 1) | (random.below(16) / 15));
-                    let mut access = Access::new(kind, address, size);
-                    if random.below(2) == 0 {
-                        access = access.el0();
-                    }
-
-                    let answer = session.access(&mut memory, &access);
-                    let Some(regime) = last else {
-                        assert_eq!(answer, Err(Stop::Refused(Refusal::NoRegime)));
-                        assert!(memory == before);
-                        continue;
-                    };
-                    let mut walked = before;
-                    let plain = walk(&mut walked, &regime, &access);
-                    assert_eq!(uncounted(answer), uncounted(plain), "list {list}");
-                    assert!(memory == walked, "list {list}");
-                    match answer {
-                        Ok(found) => {
-                            held += u32::from(found.reads == 0);
-                            dirtied[usize::from(regime.ee)] += u32::from(found.dirtied);
-                        }
-                        Err(_) => faults += 1,
-                    }
-                }
+                0 => list.set_regime(&mut random),
+                1 => list.store(&mut random),
+                _ => list.access(&mut random, &mut met),
             }
         }
     }
     // The lists are worth something.
+    let few = |counts: &[u32], least| counts.iter().any(|&count| count < least);
     assert!(
-        held > 1000 && dirtied.iter().all(|&count| count > 100) && faults > 1000,
-        "{held} held, {dirtied:?} dirtied, {faults} faults"
+        !few(&[met.held, met.faults], 1000) && !few(&met.dirtied, 100) && !few(&met.found, 500),
+        "{met:?}"
     );
 }

@@ -4,7 +4,7 @@
 --     sets                  a local that was room, at entry n, is given a value
 --     Value, a-struct, a-number     a value that owns nothing; a struct of numbers is one, and a number
 --     asks xs               what a callee asks that takes the values xs alone: it is had for nothing
---     lends xs ys           what a callee asks that is lent something, between the values xs and ys: what the borrow owns and its token stand at the head
+--     lends met xs ys       what a callee asks that is lent something, between the values xs and ys: what the borrow owns and its token stand at the head; met, what it requires
 --     Gave, gave            what a callee gives that changes nothing of what it was lent: its result x, of which φ holds
 --     GaveMemory, gave-memory     what a callee gives that was lent the memory for good: x, and the memory's last bytes l, of which φ holds
 -- Assumes `Given`.
@@ -94,11 +94,11 @@ module _ {M : Type 1} {𝓤 : URA M} {H : Heap 𝓤} {A : Atoms 𝓤} {K : Type 
   pub asks : K → (xs : List (Value 𝓤 H A)) → Step K W (raw (sep 𝓤 (sep 𝓤 (emp 𝓤) (sem 𝓤 H A (Beside xs ftrue))) (emp 𝓤)) ∷ Γ) G Γ G
   asks t xs = use0 W (raw (sep 𝓤 (sep 𝓤 (emp 𝓤) (sem 𝓤 H A (Beside xs ftrue))) (emp 𝓤))) (qed W [] ∵ nothing ! $ beside ! xs $ nothing ! $ join ! $ frame ! $ done !)
 
-  pub lends : K → {P : Fml} {i : Item 𝓤} (xs ys : List (Value 𝓤 H A))
-      → Step K W (raw (sep 𝓤 (sep 𝓤 (sep 𝓤 (mean 𝓤 H A i) (emp 𝓤)) (sem 𝓤 H A (Beside xs (fsep P (Beside ys ftrue))))) (emp 𝓤)) ∷ Γ) G (‵ P ∷ i ∷ Γ) G
-  lends t {P} {i} xs ys = step (λ s. nothing t $ beside t ys $ move t (1 ∷ 0 ∷ []) $ fjoin t $ beside t xs $ nothing t $ move t (2 ∷ 0 ∷ []) $ join t $
-      use2 W (raw (sep 𝓤 (sep 𝓤 (sep 𝓤 (mean 𝓤 H A i) (emp 𝓤)) (sem 𝓤 H A (Beside xs (fsep P (Beside ys ftrue))))) (emp 𝓤)))
-      (qed W ((i ⊛ ‵ ftrue) ∷ ‵ (Beside xs (fsep P (Beside ys ftrue))) ∷ []) ∵ join ! $ nothing ! $ move ! (1 ∷ 0 ∷ []) $ frame ! $ done !) $ s)
+  pub lends : K → {P : Fml} {i : Item 𝓤} {R : SProp 𝓤} → ent 𝓤 (emp 𝓤) R → (xs ys : List (Value 𝓤 H A))
+      → Step K W (raw (sep 𝓤 (sep 𝓤 (sep 𝓤 (mean 𝓤 H A i) (emp 𝓤)) (sem 𝓤 H A (Beside xs (fsep P (Beside ys ftrue))))) R) ∷ Γ) G (‵ P ∷ i ∷ Γ) G
+  lends t {P} {i} {R} met xs ys = step (λ s. nothing t $ beside t ys $ move t (1 ∷ 0 ∷ []) $ fjoin t $ beside t xs $ nothing t $ move t (2 ∷ 0 ∷ []) $ join t $
+      use2 W (raw (sep 𝓤 (sep 𝓤 (sep 𝓤 (mean 𝓤 H A i) (emp 𝓤)) (sem 𝓤 H A (Beside xs (fsep P (Beside ys ftrue))))) R))
+      (qed W ((i ⊛ ‵ ftrue) ∷ ‵ (Beside xs (fsep P (Beside ys ftrue))) ∷ []) ∵ join ! $ use0 W (raw R) met $ move ! (1 ∷ 0 ∷ []) $ frame ! $ done !) $ s)
 
 -- ---- what a callee gives back
 -- what a contract binds of n parameters of which it says nothing, and then X; what it says of them, and then F

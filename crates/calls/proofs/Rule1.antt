@@ -11,6 +11,7 @@ use Rattle.descriptor.specs.Bytes.{put}
 use Rattle.descriptor.specs.Bits.{pick}
 use Rattle.descriptor.proofs.Laws.{length-put, desc-put}
 use Rattle.descriptor.proofs.Tests.{clash}
+use Rattle.vmsa.specs.Words.{regimeOf}
 use Rattle.vmsa.specs.Answers.{Result, numberOf, dirtiedIn}
 use Rattle.vmsa.specs.declared.Regime.{Regime}
 use Rattle.vmsa.specs.declared.Access.{Access}
@@ -18,7 +19,7 @@ use Rattle.vmsa.specs.declared.Leaf.{Leaf}
 use Rattle.vmsa.specs.declared.Refusal.{Refusal}
 use Rattle.checks.specs.declared.Checked.{Checked}
 use Rattle.checks.specs.declared.Checked.the-variants.{Accepted, Refused}
-use Rattle.checks.specs.Order.{firstOf, memoryRows, settingRows, accessRows, storeRows, regimeCheck, sessionStoreCheck}
+use Rattle.checks.specs.Order.{firstOf, memoryRows, settingRows, accessRows, storeRows, regimeCheck, sessionStoreCheck, andThen}
 use Rattle.checks.proofs.Accept.{clear, pooled}
 use Rattle.lookup.specs.declared.Word.the-variants.{Value}
 use Rattle.lookup.specs.Steps.{fetched}
@@ -28,15 +29,16 @@ use Rattle.rules.specs.Rule1.{FirstNumber}
 use Rattle.rules.specs.Tables.{readerOf}
 use Rattle.rules.proofs.Refusals.{first-refuses, refuses-first}
 use Rattle.tlb.specs.Replies.{Reply, done, refused, answered, Told, updates}
-use Rattle.tlb.specs.Walker.{Spot, lost, found, andThen, Entry, empty, heldIn, Walked, declined, putWord, walkFrom, walked, accessHeld, accessBy, accessIn}
+use Rattle.tlb.specs.Walker.{Spot, lost, found, Entry, empty, heldIn, Walked, declined, putWord, walkFrom, walked, accessHeld, accessBy, accessIn}
 use Rattle.tlb.specs.Ours.{offsetOf, located, judged, stamped, ours}
 use Rattle.tlb.specs.Entries.{entryView, regimeIn, pageFor, entryFor, keptEntry}
-use Rattle.tlb.proofs.Walking.{first-append, both, put-is}
+use Rattle.checks.proofs.Rows.{first-append, both}
+use Rattle.tlb.proofs.Walking.{put-is}
 use Rattle.tlb.proofs.Found.{where-found, in-the-pool}
 use Rattle.session.specs.declared.Session.{Session as SessionStruct}
 use Rattle.session.specs.Model.{Session, Handed, handed, Stepped, stay, refusal, keep, setBy, learn, accessWith, storeBy, storeIn, Call, setRegime, access, store, dropAll, call}
-use Rattle.session.specs.View.{sessionView, regimeHeld, setAfter, entryIn, withEntry, sessionAfter, leaves}
-use Rattle.session.proofs.Calls.{set-checked, Storable, store-accepted, access-learn, given, access-is, unkept-same, viewed-leaves}
+use Rattle.session.specs.View.{sessionView, regimeHeld, setAfter, entryIn, withEntry, sessionAfter, leaves, numberIn}
+use Rattle.session.proofs.Calls.{set-checked, Storable, store-accepted, access-learn, given, access-is, unkept-same, viewed-leaves, regimeOr, by-or}
 use Rattle.calls.specs.Chains.{event, Functions, Leaving, Calling, regimeAfter}
 use Rattle.calls.proofs.Memories.{Written, still, wrote, written-long, written-bytes, written-outside, written-same, pool-same, located-same}
 use Rattle.calls.specs.Rule1.{rowsOf, InPool, Reach, StoredAt, Rule1Event, Same, Rule1Call, Rule1OfModel}
@@ -74,8 +76,8 @@ module _ (m : List ℕ) (a : Access) where
   access-rows : (g : Option Regime) (e : Entry) → AccessBy m (firstOf (rowsOf (length m) g (access a))) (accessIn ours g m a e)
   access-rows none e = refl
   access-rows (some r) e =
-      subst⁻¹ (λ (x : Checked). AccessBy m x (accessIn ours (some r) m a e)) (first-append (memoryRows (length m) (r .pool)) (accessRows a))
-      (access-by r (heldIn e (ours .page r a)) (andThen (firstOf (memoryRows (length m) (r .pool))) (firstOf (accessRows a))))
+      subst⁻¹ (λ (x : Checked). AccessBy m x (accessIn ours (some r) m a e)) (first-append (memoryRows (length m) r) (accessRows r a))
+      (access-by r (heldIn e (ours .page r a)) (andThen (firstOf (memoryRows (length m) r)) (firstOf (accessRows r a))))
 
   -- a refused access keeps no leaf
   unkept : (g : Option Regime) (e : Entry) (k : ℕ) → accessIn ours g m a e .reply ≡ refused k → accessIn ours g m a e .kept ≡ none
@@ -102,20 +104,22 @@ module _ (s : Session) (m : List ℕ) where
   store-rows : (address value : ℕ) (g : Option Regime) → CallBy s m (firstOf (rowsOf (length m) g (store address value))) (stay s (storeIn ours g m address value))
   store-rows address value none = refl
   store-rows address value (some r) =
-      subst⁻¹ (λ (x : Checked). CallBy s m x (stay s (storeIn ours (some r) m address value))) (first-append (memoryRows (length m) (r .pool)) (storeRows (r .pool) address))
-      (store-by r address value (andThen (firstOf (memoryRows (length m) (r .pool))) (firstOf (storeRows (r .pool) address))))
+      subst⁻¹ (λ (x : Checked). CallBy s m x (stay s (storeIn ours (some r) m address value))) (first-append (memoryRows (length m) r) (storeRows (r .pool) address))
+      (store-by r address value (andThen (firstOf (memoryRows (length m) r)) (firstOf (storeRows (r .pool) address))))
 
-  learn-rows : (a : Access) (x : Checked) (w : Walked) → AccessBy m x w → CallBy s m x (learn ours s (pageFor a) w)
-  learn-rows a (Refused x) w e = ap (learn ours s (pageFor a)) e
-  learn-rows a Accepted w h = h
+  learn-rows : (page : ℕ) (x : Checked) (w : Walked) → AccessBy m x w → CallBy s m x (learn ours s page w)
+  learn-rows page (Refused x) w e = ap (learn ours s page) e
+  learn-rows page Accepted w h = h
 
   rows : (c : Call) → CallBy s m (firstOf (rowsOf (length m) (s .regime) c)) (call ours s m c)
   rows (setRegime r) =
-      subst⁻¹ (λ (x : Checked). CallBy s m x (call ours s m (setRegime r))) (first-append (memoryRows (length m) (r .pool)) (settingRows r))
-      (set-rows r (andThen (firstOf (memoryRows (length m) (r .pool))) (firstOf (settingRows r))))
+      subst⁻¹ (λ (x : Checked). CallBy s m x (call ours s m (setRegime r))) (first-append (memoryRows (length m) r) (settingRows r))
+      (set-rows r (andThen (firstOf (memoryRows (length m) r)) (firstOf (settingRows r))))
   rows (access a) =
-      subst (λ (y : Stepped). CallBy s m (firstOf (rowsOf (length m) (s .regime) (access a))) y) (access-learn s m a (s .regime))
-      (learn-rows a (firstOf (rowsOf (length m) (s .regime) (access a))) (accessIn ours (s .regime) m a (getD (s .entries) (entryFor a) empty)) (access-rows m a (s .regime) (getD (s .entries) (entryFor a) empty)))
+      let r = regimeOr (s .regime) in
+      let e = getD (s .entries) (entryFor r a) empty in
+      subst (λ (y : Stepped). CallBy s m (firstOf (rowsOf (length m) (s .regime) (access a))) y) (access-learn s m a r (s .regime) (by-or (s .regime)))
+      (learn-rows (pageFor r a) (firstOf (rowsOf (length m) (s .regime) (access a))) (accessIn ours (s .regime) m a e) (access-rows m a (s .regime) e))
   rows (store address value) = store-rows address value (s .regime)
   rows dropAll = done-not
 
@@ -191,10 +195,10 @@ module _ (r : Regime) (a : Access) (m n : List ℕ) (h : Same (InPool (some r)) 
 
 -- rows 1, 6 and 7, and rows 1 and 8
 accessChecks : Regime → Access → ℕ → Checked
-accessChecks r a k = andThen (firstOf (memoryRows k (r .pool))) (firstOf (accessRows a))
+accessChecks r a k = andThen (firstOf (memoryRows k r)) (firstOf (accessRows r a))
 
 storeChecks : Regime → ℕ → ℕ → Checked
-storeChecks r address k = andThen (firstOf (memoryRows k (r .pool))) (firstOf (storeRows (r .pool) address))
+storeChecks r address k = andThen (firstOf (memoryRows k r)) (firstOf (storeRows (r .pool) address))
 
 module _ (m n : List ℕ) where
   both-access : (r : Regime) (a : Access) (x : Option Leaf) → Same (InPool (some r)) m n → (y : Checked) → accessChecks r a (length m) ≡ y
@@ -202,7 +206,7 @@ module _ (m n : List ℕ) where
   unfolding accessChecks
   both-access r a x h (Refused y) e = record { reply = refl; kept = refl; memory = still }
   both-access r a x h Accepted e =
-      both-held r a m n h (pooled (length m) (r .pool) (clear (memoryRows (length m) (r .pool)) (both (firstOf (memoryRows (length m) (r .pool))) (firstOf (accessRows a)) e .0) .0) .fits) x
+      both-held r a m n h (pooled (length m) r (clear (memoryRows (length m) r) (both (firstOf (memoryRows (length m) r)) (firstOf (accessRows r a)) e .0) .0) .fits) x
 
   both-access-in : (a : Access) (e : Entry) (g : Option Regime) → Same (InPool g) m n → BothWalk (InPool g) m n (accessIn ours g m a e) (accessIn ours g n a e)
   unfolding accessChecks
@@ -231,7 +235,7 @@ module _ (m n : List ℕ) where
     unfolding storeChecks sessionStoreCheck
     both-store r address value (Refused x) e = record { reply = refl; session = refl; memory = still }
     both-store r address value Accepted e =
-        let t = store-accepted (length m) (r .pool) address (first-append (memoryRows (length m) (r .pool)) (storeRows (r .pool) address) ∙ e) in
+        let t = store-accepted (length m) r address (first-append (memoryRows (length m) r) (storeRows (r .pool) address) ∙ e) in
         record { reply = refl; session = refl; memory = wrote-pool r m n (offsetOf r address) value (omega arith) (omega (arith, t .least, t .most)) (t .fits) }
 
     both-store-in : (address value : ℕ) (g : Option Regime) → Same (InPool g) m n → Both (InPool g) (stay s (storeIn ours g m address value)) (stay s (storeIn ours g n address value))
@@ -247,13 +251,14 @@ module _ (m n : List ℕ) where
 
     both-call : (c : Call) → Same (Reach (s .regime) c) m n → Both (Reach (s .regime) c) (call ours s m c) (call ours s n c)
     both-call (setRegime r) h =
-        subst (λ (k : ℕ). Both (λ (i : ℕ). ⊥) (call ours s m (setRegime r)) (setBy ours s n r (andThen (firstOf (memoryRows k (r .pool))) (firstOf (settingRows r))))) (h .long)
-        (both-set r (andThen (firstOf (memoryRows (length m) (r .pool))) (firstOf (settingRows r))))
+        subst (λ (k : ℕ). Both (λ (i : ℕ). ⊥) (call ours s m (setRegime r)) (setBy ours s n r (andThen (firstOf (memoryRows k r)) (firstOf (settingRows r))))) (h .long)
+        (both-set r (andThen (firstOf (memoryRows (length m) r)) (firstOf (settingRows r))))
     both-call (access a) h =
-        let e = getD (s .entries) (entryFor a) empty in
-        subst (λ (y : Stepped). Both (InPool (s .regime)) (call ours s m (access a)) y) (access-learn s n a (s .regime))
-        (subst (λ (x : Stepped). Both (InPool (s .regime)) x (learn ours s (pageFor a) (accessIn ours (s .regime) n a e))) (access-learn s m a (s .regime))
-        (both-learn (pageFor a) (accessIn ours (s .regime) m a e) (accessIn ours (s .regime) n a e) (both-access-in a e (s .regime) h)))
+        let r = regimeOr (s .regime) in
+        let e = getD (s .entries) (entryFor r a) empty in
+        subst (λ (y : Stepped). Both (InPool (s .regime)) (call ours s m (access a)) y) (access-learn s n a r (s .regime) (by-or (s .regime)))
+        (subst (λ (x : Stepped). Both (InPool (s .regime)) x (learn ours s (pageFor r a) (accessIn ours (s .regime) n a e))) (access-learn s m a r (s .regime) (by-or (s .regime)))
+        (both-learn (pageFor r a) (accessIn ours (s .regime) m a e) (accessIn ours (s .regime) n a e) (both-access-in a e (s .regime) h)))
     both-call (store address value) h = both-store-in address value (s .regime) h
     both-call dropAll h = record { reply = refl; session = refl; memory = still }
 
@@ -273,8 +278,8 @@ set-regime s m r Accepted = refl
 set-regime s m r (Refused x) = refl
 
 regime-after : (s : Session) (m : List ℕ) (c : Call) → call ours s m c .session .regime ≡ regimeAfter c (call ours s m c .reply) (s .regime)
-regime-after s m (setRegime r) = set-regime s m r (andThen (firstOf (memoryRows (length m) (r .pool))) (firstOf (settingRows r)))
-regime-after s m (access a) = ap (λ (y : Stepped). y .session .regime) (sym (access-learn s m a (s .regime)))
+regime-after s m (setRegime r) = set-regime s m r (andThen (firstOf (memoryRows (length m) r)) (firstOf (settingRows r)))
+regime-after s m (access a) = ap (λ (y : Stepped). y .session .regime) (sym (access-learn s m a (regimeOr (s .regime)) (s .regime) (by-or (s .regime))))
 regime-after s m (store address value) = refl
 regime-after s m dropAll = refl
 
@@ -299,7 +304,7 @@ store-leaves : (r : Regime) (m : List ℕ) (address value : ℕ) (x : Checked) �
 unfolding storeChecks sessionStoreCheck
 store-leaves r m address value (Refused x) e q = clash (cc)
 store-leaves r m address value Accepted e q =
-    let t = store-accepted (length m) (r .pool) address (first-append (memoryRows (length m) (r .pool)) (storeRows (r .pool) address) ∙ e) in
+    let t = store-accepted (length m) r address (first-append (memoryRows (length m) r) (storeRows (r .pool) address) ∙ e) in
     subst⁻¹ (λ (left : List ℕ). StoredAt r address value m left) (put-is r m (offsetOf r address) value) (record { bytes = refl; read = read-back r m address value t })
 
 call-stores : (s : Session) (m : List ℕ) (c : Call) (r : Regime) (address value : ℕ) → s .regime ≡ some r → c ≡ store address value → call ours s m c .reply ≡ done
@@ -355,7 +360,7 @@ struct-kept s m dropAll k q = clash (cc)
 struct-same : (s : SessionStruct) (m n : List ℕ) (c : Call) → Same (Reach (regimeHeld s) c) m n → sessionAfter s m c ≡ sessionAfter s n c
 struct-same s m n (setRegime r) h = ap (λ (k : ℕ). setAfter s r (regimeCheck k r)) (h .long)
 struct-same s m n (access a) h =
-    ap (λ (k : Option Leaf). withEntry s (entryFor a) (keptEntry (entryIn s a) (pageFor a) k)) (both-access-in m n a (entryView (entryIn s a)) (regimeHeld s) h .kept)
+    ap (λ (k : Option Leaf). withEntry s (numberIn s a) (keptEntry (entryIn s a) (pageFor (regimeOf (s .regime)) a) k)) (both-access-in m n a (entryView (entryIn s a)) (regimeHeld s) h .kept)
 struct-same s m n (store address value) h = refl
 struct-same s m n dropAll h = refl
 

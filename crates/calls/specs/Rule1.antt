@@ -30,8 +30,8 @@ underRegime (some r) rows = (false, NoRegime) ∷ rows r
 -- the rows of a call over n bytes of memory in a session with the regime g, in the order of the checks (RULES 5.3)
 abbrev pub rowsOf : ℕ → Option Regime → Call → List (Bool × Refusal)
 rowsOf n g (setRegime r) = regimeRows n r
-rowsOf n g (access a) = underRegime g (λ (r : Regime). memoryRows n (r .pool) ++ accessRows a)
-rowsOf n g (store address value) = underRegime g (λ (r : Regime). memoryRows n (r .pool) ++ storeRows (r .pool) address)
+rowsOf n g (access a) = underRegime g (λ (r : Regime). memoryRows n r ++ accessRows r a)
+rowsOf n g (store address value) = underRegime g (λ (r : Regime). memoryRows n r ++ storeRows (r .pool) address)
 rowsOf n g dropAll = []
 
 -- the bytes of the pool of a session's regime

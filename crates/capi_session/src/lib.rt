@@ -55,7 +55,7 @@ pub extern "C" fn vmsa_session_access(
     ensures { λ _. ⌜ handed (now (session .exit)) (now (memory .exit)) (now (answer .exit)) ≡ replied replyWords (leaves (now (session .entry)) (now (memory .entry)) (accessing (accessOf (now (access .entry))))) ⌝ }
 {
     let access = *access;
-    let i = words::entry_of(access);
+    let i = words::entry_of(session.regime, access);
     let entry = session.entries[i];
     let hit = words::hit_entry(session.regime, session.set, entry, memory.len(), access);
     if hit.hit {
@@ -64,7 +64,7 @@ pub extern "C" fn vmsa_session_access(
     }
     // read again, so that a hit does not pay for what only the longer way needs
     let entry = session.entries[i];
-    let filled = words::access_entry(session.regime, session.set, entry, memory, access);
+    let filled = words::walk_entry(session.regime, entry, memory, access);
     session.entries[i] = filled.entry;
     *answer = filled.answer;
 }

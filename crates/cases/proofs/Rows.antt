@@ -13,7 +13,7 @@ use Rattle.descriptor.proofs.Tests.{and-true}
 use Rattle.geometry.specs.Geometry.{pageSize, strideBits, unaligned, pageOf, levelOf, shiftOf, span, blockAt, firstLeft, cut, outputBits, outputLimit}
 use Rattle.vmsa.specs.Attributes.{attribute, device, normal}
 use Rattle.vmsa.specs.Fields.{tableBits, withTable}
-use Rattle.refusals.specs.Tests.{memoryPoolBad, poolAddressBad, tszBad, sizesBad, rootBad, rootsBad, attributeBad, attributesBad, dirtyStateBad, accessSizeBad, lastByte, crossing}
+use Rattle.refusals.specs.Tests.{memoryPoolBad, poolAddressBad, tszBad, sizesBad, rootBad, rootsBad, attributeBad, attributesBad, dirtyStateBad, sizeBad, accessSizeBad, lastByte, crossing}
 use Rattle.checks.specs.Order.{walkCheck}
 use Rattle.vmsa.specs.declared.Regime.{Regime}
 use Rattle.vmsa.specs.declared.AccessKind.the-variants.{Read}
@@ -61,7 +61,7 @@ unfolding allSound rows allPlaced placed
 all-sound = refl
 
 all-computed : outcomes computed rows ≡ outcomes expected rows
-unfolding outcomes rows puts valueAt quick quickWalk setBit clearBit pageSize strideBits unaligned pageOf levelOf shiftOf span blockAt firstLeft cut outputBits outputLimit attribute device normal memoryPoolBad poolAddressBad tszBad sizesBad rootBad rootsBad attributeBad attributesBad dirtyStateBad accessSizeBad lastByte crossing walkCheck invalid isTable addressIn decoded entryAt followed entered descend upper rangeOf outside contextOf lookup locate tableBits withTable attributeOf writable clean user uxn pxn mayRead mayWrite mayFetchWith mayFetch permitted misaligned flagFails alignmentFails permissionFails flagDue dirtyDue updated cacheable outputOf failing passing decision
+unfolding outcomes rows puts valueAt quick quickWalk setBit clearBit pageSize strideBits unaligned pageOf levelOf shiftOf span blockAt firstLeft cut outputBits outputLimit attribute device normal memoryPoolBad poolAddressBad tszBad sizesBad rootBad rootsBad attributeBad attributesBad dirtyStateBad sizeBad accessSizeBad lastByte crossing walkCheck invalid isTable addressIn decoded entryAt followed entered descend upper rangeOf outside contextOf lookup locate tableBits withTable attributeOf writable clean user uxn pxn mayRead mayWrite mayFetchWith mayFetch permitted misaligned flagFails alignmentFails permissionFails flagDue dirtyDue updated cacheable outputOf failing passing decision
 all-computed = refl
 
 visited : (ds : List (ℕ × ℕ)) → allPlaced (base .pool .length) ds ≡ true → visitedIn ds ≡ locate base (quick (base .ee) (base .pool .length) ds poolAddress) (usual Read .address .0) .visited
@@ -82,7 +82,7 @@ unfolding memoryOf puts
 first-bytes r k = take-put (r .ee) (replicate (r .pool .length) 0) 0 swappedDescriptor (rw (length-replicate {A = ℕ} (r .pool .length) 0) k)
 
 pub worked : Worked
-unfolding Worked All rows bytesOf inOrder digits allPlaced placed valueAt quick pageSize strideBits unaligned pageOf levelOf shiftOf span blockAt firstLeft cut outputBits outputLimit attribute device normal memoryPoolBad poolAddressBad tszBad sizesBad rootBad rootsBad attributeBad attributesBad dirtyStateBad accessSizeBad lastByte crossing walkCheck invalid isTable addressIn decoded entryAt followed entered descend upper rangeOf outside contextOf lookup locate tableBits withTable
+unfolding Worked All rows bytesOf inOrder digits allPlaced placed valueAt quick pageSize strideBits unaligned pageOf levelOf shiftOf span blockAt firstLeft cut outputBits outputLimit attribute device normal memoryPoolBad poolAddressBad tszBad sizesBad rootBad rootsBad attributeBad attributesBad dirtyStateBad sizeBad accessSizeBad lastByte crossing walkCheck invalid isTable addressIn decoded entryAt followed entered descend upper rangeOf outside contextOf lookup locate tableBits withTable
 worked =
     let all = each rows all-sound all-computed in (
       all,
@@ -94,6 +94,10 @@ worked =
       first-bytes base (lit≤ tt),
       visited (withThird 0x4000F003) refl,
       visited (withThird 0x40010003) refl,
+      refl,
+      refl,
+      refl,
+      refl,
       refl,
       refl,
     )

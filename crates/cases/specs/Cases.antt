@@ -1,12 +1,15 @@
 -- The worked cases P1 to P12 as one table under one claim (RULES 12).
-use Prim.Native.Nat.{ℕ, _+_, _*_, _-_}
+use Prim.Native.Nat.{ℕ, _+_, _*_, _-_, _^_}
 use mathlib.Core.Bool.{Bool, true, false}
 use mathlib.Core.List.{List, [], _∷_, _++_}
 use mathlib.Core.Path.{_≡_}
-use lib.ListN.{replicate, take, drop}
+use lib.ListN.{length, replicate, take, drop}
 use Rattle.descriptor.specs.Bytes.{put}
 use Rattle.vmsa.specs.Answers.{Result, success, fault, refused}
-use Rattle.vmsa.specs.Settings.{disabledRange, withPool, withRange0, withHpd0, withHpd1, withOutput, withHa, withHd, withWxn, withEe, withAttributes}
+use Rattle.vmsa.specs.Settings.{disabledRange, withPool, withRange0, withRange1, withHpd0, withHpd1, withOutput, withHa, withHd, withWxn, withEe, withGranule, withAttributes}
+use Rattle.vmsa.specs.Granules.{pageBits}
+use Rattle.vmsa.specs.declared.Granule.{Granule}
+use Rattle.vmsa.specs.declared.Granule.the-variants.{Kib4, Kib16, Kib64}
 use Rattle.vmsa.specs.declared.Regime.{Regime}
 use Rattle.vmsa.specs.declared.Pool.{Pool}
 use Rattle.vmsa.specs.declared.Range.{Range}
@@ -46,6 +49,7 @@ base = record {
   hd = true;
   wxn = false;
   ee = false;
+  granule = Kib4;
   attributes = eight 0xFF;
 }
 
@@ -152,20 +156,24 @@ All (r ∷ rs) = Holds r × All rs
 
 -- ---- the table
 
--- a success at level 3 after 4 reads: its address, whether it set the Access flag, cleared AP[2], and may be remembered
-abbrev pub passed : ℕ → Bool → Bool → Bool → Result
-passed output accessed dirtied cacheable =
+-- a success at a level after so many reads: its address, whether it set the Access flag, cleared AP[2], and may be remembered
+abbrev pub passedAt : ℕ → ℕ → ℕ → Bool → Bool → Bool → Result
+passedAt level reads output accessed dirtied cacheable =
     success (record {
       output = record { 0 = output };
       attribute = 0xFF;
       shareability = 3;
       nonglobal = false;
-      level = 3;
+      level = level;
       accessed = accessed;
       dirtied = dirtied;
       cacheable = cacheable;
-      reads = 4;
+      reads = reads;
     })
+
+-- at level 3 after 4 reads
+abbrev pub passed : ℕ → Bool → Bool → Bool → Result
+passed = passedAt 3 4
 
 -- a fault: its code, level, whether it may be remembered, and the count of reads
 abbrev pub failed : ℕ → ℕ → Bool → ℕ → Result
@@ -192,6 +200,69 @@ swappedDescriptor = 0x0310004000000000
 
 abbrev pub readSwapped : Regime → Row
 readSwapped r = row r (usual Read) (stored poolAddress swappedDescriptor ∷ []) (failed 4 0 false 1) []
+
+-- ---- granules
+
+-- a range of size field t, whose root stands at an address
+abbrev pub rangeOf : ℕ → ℕ → Range
+rangeOf t root = record { root = record { 0 = root }; tsz = t; disabled = false; hpd = false }
+
+-- a regime of this granule, its ranges of size field t; the pool has room for the tables of a way
+abbrev pub granuled : Granule → ℕ → Regime
+granuled g t = withGranule (withPool (withRange0 (withRange1 base (rangeOf t poolAddress)) (rangeOf t poolAddress)) (workedPool 262144)) g
+
+-- the descriptors on a way from the root to v, by the index at each level, for tables of s bytes that stand one after another from table k on. A table's descriptor has all bits
+-- from 12 up to the granule's set, and they have no say in its address
+abbrev pub way : ℕ → ℕ → List ℕ → ℕ → List (ℕ × ℕ)
+way s k [] v = []
+way s k (i ∷ []) v = (k * s + 8 * i, v) ∷ []
+way s k (i ∷ j ∷ rest) v = (k * s + 8 * i, poolAddress + (k + 2) * s - 0x1000 + 3) ∷ way s (k + 1) (j ∷ rest) v
+
+-- the last of them becomes v
+abbrev pub lastNow : List (ℕ × ℕ) → ℕ → List (ℕ × ℕ)
+lastNow [] v = []
+lastNow (d ∷ []) v = (d .0, v) ∷ []
+lastNow (d ∷ e ∷ ds) v = lastNow (e ∷ ds) v
+
+abbrev pub wayIn : Regime → List ℕ → ℕ → List (ℕ × ℕ)
+wayIn r indexes v = way (2 ^ pageBits (r .granule)) 0 indexes v
+
+-- a read that goes by these indexes to the leaf v, at this level: its output address, and the leaf afterwards
+abbrev pub reaches : Regime → List ℕ → ℕ → ℕ → ℕ → ℕ → ℕ → Row
+reaches r indexes address v level output w = row r (access address 4 Read) (wayIn r indexes v) (passedAt level (length indexes) output true false true) (lastNow (wayIn r indexes v) w)
+
+-- one that ends there in a Translation fault
+abbrev pub misses : Regime → List ℕ → ℕ → ℕ → ℕ → ℕ → Row
+misses r indexes address v code level = row r (access address 4 Read) (wayIn r indexes v) (failed code level false (length indexes)) []
+
+-- a page and a block at level 2, with all bits from 12 up to the lowest of their address set; and them with the Access flag set
+abbrev pub page16 : ℕ
+page16 = 0x00080000800073C3
+
+abbrev pub page64 : ℕ
+page64 = 0x000800008001F3C3
+
+abbrev pub block16 : ℕ
+block16 = 0x0008000083FFF3C1
+
+abbrev pub block64 : ℕ
+block64 = 0x00080000BFFFF3C1
+
+abbrev pub accessedPage16 : ℕ
+accessedPage16 = 0x00080000800077C3
+
+abbrev pub accessedPage64 : ℕ
+accessedPage64 = 0x000800008001F7C3
+
+abbrev pub accessedBlock16 : ℕ
+accessedBlock16 = 0x0008000083FFF7C1
+
+abbrev pub accessedBlock64 : ℕ
+accessedBlock64 = 0x00080000BFFFF7C1
+
+-- the pool at another place of the memory, with another address
+abbrev pub movedPool : ℕ → ℕ → ℕ → Pool
+movedPool start n address = record { start = start; length = n; address = record { 0 = address } }
 
 unfoldable pub rows : List Row
 rows =
@@ -291,6 +362,37 @@ rows =
     -- the first descriptor in the other order, with EE on and off: bit 0 is then that of another byte
     ∷ readSwapped bigEndian
     ∷ readSwapped base
+    -- 16 KiB: from each first level to a page, whose address is cut at bit 14
+    ∷ reaches (granuled Kib16 16) (0x001 ∷ 0x405 ∷ 0x406 ∷ 0x407 ∷ []) 0xC0580D01EABC page16 3 0x80006ABC accessedPage16
+    ∷ reaches (granuled Kib16 17) (0x405 ∷ 0x406 ∷ 0x407 ∷ []) 0x40580D01EABC page16 3 0x80006ABC accessedPage16
+    ∷ reaches (granuled Kib16 28) (0x406 ∷ 0x407 ∷ []) 0x80D01EABC page16 3 0x80006ABC accessedPage16
+    ∷ reaches (granuled Kib16 39) (0x407 ∷ []) 0x101EABC page16 3 0x80006ABC accessedPage16
+    -- 64 KiB: the same, cut at bit 16; and with EE on
+    ∷ reaches (granuled Kib64 16) (0x0025 ∷ 0x1005 ∷ 0x1006 ∷ []) 0x9600B006CABC page64 3 0x8001CABC accessedPage64
+    ∷ reaches (granuled Kib64 22) (0x1005 ∷ 0x1006 ∷ []) 0x200B006CABC page64 3 0x8001CABC accessedPage64
+    ∷ reaches (granuled Kib64 35) (0x1006 ∷ []) 0x1006CABC page64 3 0x8001CABC accessedPage64
+    ∷ reaches (withEe (granuled Kib64 16) true) (0x0025 ∷ 0x1005 ∷ 0x1006 ∷ []) 0x9600B006CABC page64 3 0x8001CABC accessedPage64
+    -- a block at level 2, its address cut at bit 25, at bit 29
+    ∷ reaches (granuled Kib16 17) (0x405 ∷ 0x406 ∷ []) 0x40580DFE2ABC block16 2 0x83FE2ABC accessedBlock16
+    ∷ reaches (granuled Kib64 16) (0x0025 ∷ 0x1005 ∷ []) 0x9600BFFDCABC block64 2 0xBFFDCABC accessedBlock64
+    -- 01 at a level without blocks: 0, 1 and 3 of 16 KiB, 1 and 3 of 64 KiB
+    ∷ misses (granuled Kib16 16) (0x001 ∷ []) 0xC0580D01EABC block16 4 0
+    ∷ misses (granuled Kib16 17) (0x405 ∷ []) 0x40580D01EABC block16 5 1
+    ∷ misses (granuled Kib16 39) (0x407 ∷ []) 0x101EABC block16 7 3
+    ∷ misses (granuled Kib64 16) (0x0025 ∷ []) 0x9600B006CABC block64 5 1
+    ∷ misses (granuled Kib64 35) (0x1006 ∷ []) 0x1006CABC block64 7 3
+    -- across a multiple of 4,096 within a page of 16 and of 64 KiB; and out of it
+    ∷ reaches (granuled Kib16 39) (0x407 ∷ []) 0x101EFFD page16 3 0x80006FFD accessedPage16
+    ∷ reaches (granuled Kib64 35) (0x1006 ∷ []) 0x1006CFFD page64 3 0x8001CFFD accessedPage64
+    ∷ row (granuled Kib16 39) (access 0x101FFFD 4 Read) [] (refused 7) []
+    ∷ row (granuled Kib64 35) (access 0x1006FFFD 4 Read) [] (refused 7) []
+    -- pool length, pool address and root: multiples of 4,096, and then of 16,384, but not of the granule
+    ∷ row (withPool (granuled Kib16 16) (workedPool 69632)) (usual Read) [] (refused 1) []
+    ∷ row (withPool (granuled Kib64 16) (workedPool 81920)) (usual Read) [] (refused 1) []
+    ∷ row (withPool (granuled Kib16 16) (movedPool 0 65536 0x40001000)) (usual Read) [] (refused 2) []
+    ∷ row (withPool (granuled Kib64 16) (movedPool 0 65536 0x40004000)) (usual Read) [] (refused 2) []
+    ∷ row (withRange0 (granuled Kib16 16) (rangeOf 16 0x40001000)) (usual Read) [] (refused 4) []
+    ∷ row (withRange1 (granuled Kib64 16) (rangeOf 16 0x40004000)) (usual Read) [] (refused 4) []
     ∷ []
 
 -- the descriptor addresses that the usual access visits, in order
@@ -306,7 +408,7 @@ firstBytes r = take 8 (memory r)
 
 -- the claim: every row holds; P2 and the write over eight different bytes leave these bytes of the leaf, with EE off and on; the byte-swapped first
 -- descriptor has these, with EE on those of P1's; P6 and P7 read these addresses, the last within the pool and just after it;
--- a memory of so many bytes is accepted, and of one more refused
+-- a memory of so many bytes is accepted, and of one more refused; so is, under 16 and 64 KiB, a pool from the start of a page on, and from a multiple of 4,096 or 16,384 that is none
 unfoldable pub Worked : Type 0
 Worked =
     All rows
@@ -320,3 +422,7 @@ Worked =
     × (visitedIn (withThird 0x40010003) ≡ 0x40000000 ∷ 0x40001000 ∷ 0x40002010 ∷ 0x40010018 ∷ [])
     × (walkCheck 16777216 base (usual Read) ≡ Accepted)
     × (walkCheck 16777217 base (usual Read) ≡ Refused MemoryPool)
+    × (walkCheck 16777216 (withPool (granuled Kib16 16) (movedPool 16384 65536 poolAddress)) (usual Read) ≡ Accepted)
+    × (walkCheck 16777216 (withPool (granuled Kib16 16) (movedPool 4096 65536 poolAddress)) (usual Read) ≡ Refused MemoryPool)
+    × (walkCheck 16777216 (withPool (granuled Kib64 16) (movedPool 65536 65536 poolAddress)) (usual Read) ≡ Accepted)
+    × (walkCheck 16777216 (withPool (granuled Kib64 16) (movedPool 16384 65536 poolAddress)) (usual Read) ≡ Refused MemoryPool)

@@ -8,16 +8,16 @@ use lib.Dec.{leb, ltb, eqb}
 use borrow.Author.Tests.{ltb-false, leb-false, not-false, eqb-true}
 use Rattle.descriptor.specs.Bits.{pick}
 use Rattle.descriptor.proofs.Tests.{or-false}
-use Rattle.vmsa.specs.Limits.{memoryLimit, poolLimit, addressLimit, tszLeast, tszMost, outputMost, pageBits, Sized}
+use Rattle.vmsa.specs.Limits.{memoryLimit, poolLimit, addressLimit, tszLeast, tszMost, outputMost, Sized}
+use Rattle.vmsa.specs.Granules.{pageBitsOf}
 use Rattle.geometry.specs.Geometry.{pageSize, unaligned, pageOf}
 use Rattle.vmsa.specs.Kinds.{isFetch, isProbe}
 use Rattle.vmsa.specs.declared.Regime.{Regime}
-use Rattle.vmsa.specs.declared.Pool.{Pool}
 use Rattle.vmsa.specs.declared.Access.{Access}
 use Rattle.vmsa.specs.declared.Refusal.{Refusal}
 use Rattle.checks.specs.declared.Checked.{Checked}
 use Rattle.checks.specs.declared.Checked.the-variants.{Accepted, Refused}
-use Rattle.refusals.specs.Tests.{memoryPoolBad, poolAddressBad, tszBad, sizesBad, rootBad, rootsBad, attributesBad, dirtyStateBad, accessSizeBad, lastByte, crossing}
+use Rattle.refusals.specs.Tests.{memoryPoolBad, poolAddressBad, tszBad, sizesBad, rootBad, rootsBad, attributesBad, dirtyStateBad, sizeBad, accessSizeBad, lastByte, crossing}
 use Rattle.checks.specs.Order.{firstBefore, firstOf, regimeRows, accessRows, walkRows, regimeCheck, accessCheck, walkCheck}
 
 -- no test of the rows applies
@@ -38,45 +38,45 @@ clear (row ∷ rows) e = by (row .0) refl (clear rows)
     by false h rest = (h, rest (rw h at e))
 
 -- of a memory and a pool (rows 1 and 2)
-pub record Pooled (n : ℕ) (pool : Pool) : Type 0 where
+pub record Pooled (n : ℕ) (r : Regime) : Type 0 where
   pub memory : n ≤ memoryLimit
-  pub start : unaligned pageBits (pool .start) ≡ false
-  pub length : unaligned pageBits (pool .length) ≡ false
-  pub most : pool .length ≤ poolLimit
-  pub fits : pool .start + pool .length ≤ n
+  pub start : unaligned (pageBitsOf r) (r .pool .start) ≡ false
+  pub length : unaligned (pageBitsOf r) (r .pool .length) ≡ false
+  pub most : r .pool .length ≤ poolLimit
+  pub fits : r .pool .start + r .pool .length ≤ n
 
-pub record Addressed (pool : Pool) : Type 0 where
-  pub aligned : unaligned pageBits (pool .address .0) ≡ false
-  pub below : pool .address .0 + pool .length ≤ addressLimit
+pub record Addressed (r : Regime) : Type 0 where
+  pub aligned : unaligned (pageBitsOf r) (r .pool .address .0) ≡ false
+  pub below : r .pool .address .0 + r .pool .length ≤ addressLimit
 
 -- of a root (row 4)
-pub record Rooted (root : ℕ) : Type 0 where
-  pub aligned : unaligned pageBits root ≡ false
+pub record Rooted (p root : ℕ) : Type 0 where
+  pub aligned : unaligned p root ≡ false
   pub below : root < addressLimit
 
 -- of an access (rows 6 and 7)
-pub record Shaped (a : Access) : Type 0 where
+pub record Shaped (r : Regime) (a : Access) : Type 0 where
   pub positive : 0 < a .size
-  pub one-page : pageOf pageBits (a .address .0) ≡ pageOf pageBits (lastByte a)
+  pub one-page : pageOf (pageBitsOf r) (a .address .0) ≡ pageOf (pageBitsOf r) (lastByte a)
 
 -- of a regime over n bytes
 pub record Settled (n : ℕ) (r : Regime) : Type 0 where
-  pub pool : Pooled n (r .pool)
-  pub address : Addressed (r .pool)
+  pub pool : Pooled n r
+  pub address : Addressed r
   pub sized : Sized r
-  pub root0 : Rooted (r .range0 .root .0)
-  pub root1 : Rooted (r .range1 .root .0)
+  pub root0 : Rooted (pageBitsOf r) (r .range0 .root .0)
+  pub root1 : Rooted (pageBitsOf r) (r .range1 .root .0)
   pub managed : r .hd ≡ true → r .ha ≡ true
 
-pub pooled : (n : ℕ) (pool : Pool) → memoryPoolBad n pool ≡ false → Pooled n pool
+pub pooled : (n : ℕ) (r : Regime) → memoryPoolBad n r ≡ false → Pooled n r
 unfolding memoryPoolBad
-pooled n pool e =
+pooled n r e =
     let t1 = ltb memoryLimit n in
-    let t2 = unaligned pageBits (pool .start) in
-    let t3 = unaligned pageBits (pool .length) in
-    let t4 = eqb (pool .length) 0 in
-    let t5 = ltb poolLimit (pool .length) in
-    let t6 = ltb n (pool .start + pool .length) in
+    let t2 = unaligned (pageBitsOf r) (r .pool .start) in
+    let t3 = unaligned (pageBitsOf r) (r .pool .length) in
+    let t4 = eqb (r .pool .length) 0 in
+    let t5 = ltb poolLimit (r .pool .length) in
+    let t6 = ltb n (r .pool .start + r .pool .length) in
     let s6 = or-false (t1 || t2 || t3 || t4 || t5) t6 e in
     let s5 = or-false (t1 || t2 || t3 || t4) t5 (s6 .0) in
     let s4 = or-false (t1 || t2 || t3) t4 (s5 .0) in
@@ -86,15 +86,15 @@ pooled n pool e =
       memory = ltb-false memoryLimit n (s2 .0);
       start = s2 .1;
       length = s3 .1;
-      most = ltb-false poolLimit (pool .length) (s5 .1);
-      fits = ltb-false n (pool .start + pool .length) (s6 .1);
+      most = ltb-false poolLimit (r .pool .length) (s5 .1);
+      fits = ltb-false n (r .pool .start + r .pool .length) (s6 .1);
     }
 
-pub addressed : (pool : Pool) → poolAddressBad pool ≡ false → Addressed pool
+pub addressed : (r : Regime) → poolAddressBad r ≡ false → Addressed r
 unfolding poolAddressBad
-addressed pool e =
-    let s = or-false (unaligned pageBits (pool .address .0)) (ltb addressLimit (pool .address .0 + pool .length)) e in
-    record { aligned = s .0; below = ltb-false addressLimit (pool .address .0 + pool .length) (s .1) }
+addressed r e =
+    let s = or-false (unaligned (pageBitsOf r) (r .pool .address .0)) (ltb addressLimit (r .pool .address .0 + r .pool .length)) e in
+    record { aligned = s .0; below = ltb-false addressLimit (r .pool .address .0 + r .pool .length) (s .1) }
 
 tsz-of : (t : ℕ) → tszBad t ≡ false → (tszLeast ≤ t) × (t ≤ tszMost)
 unfolding tszBad
@@ -113,10 +113,10 @@ sized r e =
     let b = tsz-of (r .range1 .tsz) (ts .1) in
     record { least0 = a .0; most0 = a .1; least1 = b .0; most1 = b .1; output = ltb-false outputMost (r .output) (s .1) }
 
-pub rooted : (root : ℕ) → rootBad root ≡ false → Rooted root
+pub rooted : (p root : ℕ) → rootBad p root ≡ false → Rooted p root
 unfolding rootBad
-rooted root e =
-    let s = or-false (unaligned pageBits root) (leb addressLimit root) e in
+rooted p root e =
+    let s = or-false (unaligned p root) (leb addressLimit root) e in
     record { aligned = s .0; below = leb-false addressLimit root (s .1) }
 
 positive-size : (s : ℕ) → (eqb s 1 || eqb s 2 || eqb s 4 || eqb s 8 || eqb s 16) ≡ true → 0 < s
@@ -126,29 +126,29 @@ positive-size zero e = absurd (no e)
     no e = let z : _≡_ {A = ℕ} 0 1 = cc in omega arith
 positive-size (suc s) e = omega arith
 
-pub shaped : (a : Access) → accessSizeBad a ≡ false → crossing a ≡ false → Shaped a
-unfolding accessSizeBad crossing
-shaped a e f =
+pub shaped : (r : Regime) (a : Access) → accessSizeBad a ≡ false → crossing r a ≡ false → Shaped r a
+unfolding accessSizeBad sizeBad crossing
+shaped r a e f =
     let s = eqb (a .size) 1 || eqb (a .size) 2 || eqb (a .size) 4 || eqb (a .size) 8 || eqb (a .size) 16 in
     let t = isFetch (a .kind) && (not (eqb (a .size) 4) || not (eqb (a .address .0 % 4) 0)) in
     let u = isProbe (a .kind) && not (eqb (a .size) 1) in
-    let p = pageOf pageBits (a .address .0) in
-    let q = pageOf pageBits (lastByte a) in
+    let p = pageOf (pageBitsOf r) (a .address .0) in
+    let q = pageOf (pageBitsOf r) (lastByte a) in
     record {
       positive = positive-size (a .size) (not-false s (or-false (not s) t (or-false (not s || t) u e .0) .0));
       one-page = eqb-true p q (not-false (eqb p q) f);
     }
 
-settled-by : (n : ℕ) (r : Regime) → memoryPoolBad n (r .pool) ≡ false → poolAddressBad (r .pool) ≡ false → sizesBad r ≡ false → rootsBad r ≡ false → dirtyStateBad r ≡ false → Settled n r
+settled-by : (n : ℕ) (r : Regime) → memoryPoolBad n r ≡ false → poolAddressBad r ≡ false → sizesBad r ≡ false → rootsBad r ≡ false → dirtyStateBad r ≡ false → Settled n r
 unfolding rootsBad dirtyStateBad
 settled-by n r e1 e2 e3 e4 e13 =
-    let s = or-false (rootBad (r .range0 .root .0)) (rootBad (r .range1 .root .0)) e4 in
+    let s = or-false (rootBad (pageBitsOf r) (r .range0 .root .0)) (rootBad (pageBitsOf r) (r .range1 .root .0)) e4 in
     record {
-      pool = pooled n (r .pool) e1;
-      address = addressed (r .pool) e2;
+      pool = pooled n r e1;
+      address = addressed r e2;
       sized = sized r e3;
-      root0 = rooted (r .range0 .root .0) (s .0);
-      root1 = rooted (r .range1 .root .0) (s .1);
+      root0 = rooted (pageBitsOf r) (r .range0 .root .0) (s .0);
+      root1 = rooted (pageBitsOf r) (r .range1 .root .0) (s .1);
       managed = λ h. not-false (r .ha) (rw h at e13);
     }
 
@@ -158,13 +158,13 @@ unfolding regimeCheck
 settled n r e = let c = clear (regimeRows n r) e in settled-by n r (c .0) (c .1 .0) (c .1 .1 .0) (c .1 .1 .1 .0) (c .1 .1 .1 .1 .1 .0)
 
 -- an access that is accepted
-pub access-shaped : (a : Access) → accessCheck a ≡ Accepted → Shaped a
+pub access-shaped : (r : Regime) (a : Access) → accessCheck r a ≡ Accepted → Shaped r a
 unfolding accessCheck
-access-shaped a e = let c = clear (accessRows a) e in shaped a (c .0) (c .1 .0)
+access-shaped r a e = let c = clear (accessRows r a) e in shaped r a (c .0) (c .1 .0)
 
 -- a plain walk that is accepted
-pub walk-accepted : (n : ℕ) (r : Regime) (a : Access) → walkCheck n r a ≡ Accepted → Settled n r × Shaped a
+pub walk-accepted : (n : ℕ) (r : Regime) (a : Access) → walkCheck n r a ≡ Accepted → Settled n r × Shaped r a
 unfolding walkCheck
 walk-accepted n r a e =
     let c = clear (walkRows n r a) e in
-    (settled-by n r (c .0) (c .1 .0) (c .1 .1 .0) (c .1 .1 .1 .0) (c .1 .1 .1 .1 .1 .0), shaped a (c .1 .1 .1 .1 .1 .1 .0) (c .1 .1 .1 .1 .1 .1 .1 .0))
+    (settled-by n r (c .0) (c .1 .0) (c .1 .1 .0) (c .1 .1 .1 .0) (c .1 .1 .1 .1 .1 .0), shaped r a (c .1 .1 .1 .1 .1 .1 .0) (c .1 .1 .1 .1 .1 .1 .1 .0))

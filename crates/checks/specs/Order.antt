@@ -20,23 +20,28 @@ firstBefore (row ∷ rows) rest = pick (row .0) (Refused (row .1)) (firstBefore 
 abbrev pub firstOf : List (Bool × Refusal) → Checked
 firstOf rows = firstBefore rows Accepted
 
+-- one check, and then another
+abbrev pub andThen : Checked → Checked → Checked
+andThen Accepted next = next
+andThen (Refused x) next = Refused x
+
 -- the memory and the pool
-abbrev pub memoryRows : ℕ → Pool → List (Bool × Refusal)
-memoryRows n pool = (memoryPoolBad n pool, MemoryPool) ∷ []
+abbrev pub memoryRows : ℕ → Regime → List (Bool × Refusal)
+memoryRows n r = (memoryPoolBad n r, MemoryPool) ∷ []
 
 -- the other settings of a regime
 abbrev pub settingRows : Regime → List (Bool × Refusal)
 settingRows r =
-    (poolAddressBad (r .pool), PoolAddress) ∷ (sizesBad r, Sizes) ∷ (rootsBad r, Root) ∷ (attributesBad (r .attributes), Attributes)
+    (poolAddressBad r, PoolAddress) ∷ (sizesBad r, Sizes) ∷ (rootsBad r, Root) ∷ (attributesBad (r .attributes), Attributes)
     ∷ (dirtyStateBad r, DirtyState) ∷ []
 
 -- setting a regime over n bytes of memory
 abbrev pub regimeRows : ℕ → Regime → List (Bool × Refusal)
-regimeRows n r = memoryRows n (r .pool) ++ settingRows r
+regimeRows n r = memoryRows n r ++ settingRows r
 
 -- an access
-abbrev pub accessRows : Access → List (Bool × Refusal)
-accessRows a = (accessSizeBad a, AccessSize) ∷ (crossing a, PageCrossing) ∷ []
+abbrev pub accessRows : Regime → Access → List (Bool × Refusal)
+accessRows r a = (accessSizeBad a, AccessSize) ∷ (crossing r a, PageCrossing) ∷ []
 
 -- a store
 abbrev pub storeRows : Pool → ℕ → List (Bool × Refusal)
@@ -44,20 +49,20 @@ storeRows pool address = (storeAddressBad pool address, StoreAddress) ∷ []
 
 -- a plain walk
 abbrev pub walkRows : ℕ → Regime → Access → List (Bool × Refusal)
-walkRows n r a = regimeRows n r ++ accessRows a
+walkRows n r a = regimeRows n r ++ accessRows r a
 
 unfoldable pub regimeCheck : ℕ → Regime → Checked
 regimeCheck n r = firstOf (regimeRows n r)
 
-unfoldable pub accessCheck : Access → Checked
-accessCheck a = firstOf (accessRows a)
+unfoldable pub accessCheck : Regime → Access → Checked
+accessCheck r a = firstOf (accessRows r a)
 
 unfoldable pub walkCheck : ℕ → Regime → Access → Checked
 walkCheck n r a = firstOf (walkRows n r a)
 
 -- an access and a store in a session that has a regime
-unfoldable pub sessionAccessCheck : ℕ → Pool → Access → Checked
-sessionAccessCheck n pool a = firstOf (memoryRows n pool ++ accessRows a)
+unfoldable pub sessionAccessCheck : ℕ → Regime → Access → Checked
+sessionAccessCheck n r a = firstOf (memoryRows n r ++ accessRows r a)
 
-unfoldable pub sessionStoreCheck : ℕ → Pool → ℕ → Checked
-sessionStoreCheck n pool address = firstOf (memoryRows n pool ++ storeRows pool address)
+unfoldable pub sessionStoreCheck : ℕ → Regime → ℕ → Checked
+sessionStoreCheck n r address = firstOf (memoryRows n r ++ storeRows (r .pool) address)

@@ -1,7 +1,6 @@
 // The order in which a call is checked: the first row of the table that applies gives the refusal.
 ghost use mathlib.Core.Path.{_≡_};
-ghost use Rattle.descriptor.specs.Bits.{pick};
-ghost use Rattle.checks.specs.Order.{firstBefore, memoryRows, settingRows, regimeRows, regimeCheck, accessCheck, walkCheck, sessionAccessCheck, sessionStoreCheck};
+ghost use Rattle.checks.specs.Order.{regimeCheck, accessCheck, walkCheck, sessionAccessCheck, sessionStoreCheck};
 use refusals::access_size_bad;
 use refusals::attributes_bad;
 use refusals::crosses;
@@ -13,7 +12,6 @@ use refusals::sizes_bad;
 use refusals::store_address_bad;
 use vmsa::Access;
 use vmsa::PhysAddr;
-use vmsa::Pool;
 use vmsa::Refusal;
 use vmsa::Regime;
 
@@ -23,78 +21,73 @@ pub enum Checked {
     Refused(Refusal),
 }
 
-// The refusal where the test applies, or else what the rest says.
-fn first(bad: bool, refusal: Refusal, rest: Checked) -> Checked
-    ensures { λ r. ⌜ r ≡ pick bad (Checked.Refused refusal) rest ⌝ }
-{
-    if bad {
-        return Checked::Refused(refusal);
-    }
-    rest
-}
-
-// The row of the memory and the pool, and then what the rest says.
-fn memory_before(n: usize, pool: Pool, rest: Checked) -> Checked
-    ensures { λ x. ⌜ x ≡ firstBefore (memoryRows n pool) rest ⌝ }
-{
-    first(memory_pool_bad(n, pool), Refusal::MemoryPool, rest)
-}
-
-// The rows of a regime's other settings, and then what the rest says.
-fn settings_before(r: Regime, rest: Checked) -> Checked
-    ensures { λ x. ⌜ x ≡ firstBefore (settingRows r) rest ⌝ }
-{
-    let from13 = first(dirty_state_bad(r), Refusal::DirtyState, rest);
-    let from5 = first(attributes_bad(r.attributes), Refusal::Attributes, from13);
-    let from4 = first(roots_bad(r), Refusal::Root, from5);
-    let from3 = first(sizes_bad(r), Refusal::Sizes, from4);
-    first(pool_address_bad(r.pool), Refusal::PoolAddress, from3)
-}
-
-// The rows of a regime, and then what the rest says.
-fn regime_before(n: usize, r: Regime, rest: Checked) -> Checked
-    ensures { λ x. ⌜ x ≡ firstBefore (regimeRows n r) rest ⌝ }
-{
-    memory_before(n, r.pool, settings_before(r, rest))
-}
-
 // Setting a regime over a memory of n bytes.
 pub fn check_regime(n: usize, r: Regime) -> Checked
     ensures { λ x. ⌜ x ≡ regimeCheck n r ⌝ }
 {
-    regime_before(n, r, Checked::Accepted)
+    if memory_pool_bad(n, r) {
+        return Checked::Refused(Refusal::MemoryPool);
+    }
+    if pool_address_bad(r) {
+        return Checked::Refused(Refusal::PoolAddress);
+    }
+    if sizes_bad(r) {
+        return Checked::Refused(Refusal::Sizes);
+    }
+    if roots_bad(r) {
+        return Checked::Refused(Refusal::Root);
+    }
+    if attributes_bad(r.attributes) {
+        return Checked::Refused(Refusal::Attributes);
+    }
+    if dirty_state_bad(r) {
+        return Checked::Refused(Refusal::DirtyState);
+    }
+    Checked::Accepted
 }
 
-// An access by itself.
-pub fn check_access(a: Access) -> Checked
-    ensures { λ x. ⌜ x ≡ accessCheck a ⌝ }
+// An access by itself, under a regime.
+pub fn check_access(r: Regime, a: Access) -> Checked
+    ensures { λ x. ⌜ x ≡ accessCheck r a ⌝ }
 {
-    let from7 = first(crosses(a), Refusal::PageCrossing, Checked::Accepted);
-    first(access_size_bad(a), Refusal::AccessSize, from7)
+    if access_size_bad(a) {
+        return Checked::Refused(Refusal::AccessSize);
+    }
+    if crosses(r, a) {
+        return Checked::Refused(Refusal::PageCrossing);
+    }
+    Checked::Accepted
 }
 
 // A plain walk over a memory of n bytes.
 pub fn check_walk(n: usize, r: Regime, a: Access) -> Checked
     ensures { λ x. ⌜ x ≡ walkCheck n r a ⌝ }
 {
-    regime_before(n, r, check_access(a))
+    match check_regime(n, r) {
+        Checked::Refused(refusal) => Checked::Refused(refusal),
+        Checked::Accepted => check_access(r, a),
+    }
 }
 
 // An access in a session that has a regime, over a memory of n bytes.
-pub fn check_session_access(n: usize, pool: Pool, a: Access) -> Checked
-    ensures { λ x. ⌜ x ≡ sessionAccessCheck n pool a ⌝ }
+pub fn check_session_access(n: usize, r: Regime, a: Access) -> Checked
+    ensures { λ x. ⌜ x ≡ sessionAccessCheck n r a ⌝ }
 {
-    memory_before(n, pool, check_access(a))
+    if memory_pool_bad(n, r) {
+        return Checked::Refused(Refusal::MemoryPool);
+    }
+    check_access(r, a)
 }
 
 // A store in a session that has a regime, over a memory of n bytes.
-pub fn check_session_store(n: usize, pool: Pool, address: PhysAddr) -> Checked
-    ensures { λ x. ⌜ x ≡ sessionStoreCheck n pool (address .0) ⌝ }
+pub fn check_session_store(n: usize, r: Regime, address: PhysAddr) -> Checked
+    ensures { λ x. ⌜ x ≡ sessionStoreCheck n r (address .0) ⌝ }
 {
-    let from8 = first(
-        store_address_bad(pool, address),
-        Refusal::StoreAddress,
-        Checked::Accepted,
-    );
-    memory_before(n, pool, from8)
+    if memory_pool_bad(n, r) {
+        return Checked::Refused(Refusal::MemoryPool);
+    }
+    if store_address_bad(r.pool, address) {
+        return Checked::Refused(Refusal::StoreAddress);
+    }
+    Checked::Accepted
 }

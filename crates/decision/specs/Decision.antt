@@ -3,7 +3,7 @@ use Prim.Native.Nat.{ℕ, _+_, _%_}
 use mathlib.Core.Bool.{Bool, false, not, _&&_, _||_}
 use mathlib.Core.List.{List, [], _∷_}
 use Rattle.descriptor.specs.Bits.{pick}
-use Rattle.vmsa.specs.Limits.{pageBits}
+use Rattle.vmsa.specs.Granules.{pageBitsOf}
 use Rattle.geometry.specs.Geometry.{levelOf, span, cut}
 use Rattle.vmsa.specs.Kinds.{isProbe, writes}
 use Rattle.vmsa.specs.Fields.{shareability, af, nonglobal, setAf, clearAp2}
@@ -43,8 +43,8 @@ unfoldable pub cacheable : Regime → Access → Leaf → Bool
 cacheable r a l = af (l .value) || flagDue r a l
 
 -- the address that an access gets from a leaf
-unfoldable pub outputOf : Access → Leaf → ℕ
-outputOf a l = cut (l .value) (span pageBits (l .left)) + a .address .0 % span pageBits (l .left)
+unfoldable pub outputOf : Regime → Access → Leaf → ℕ
+outputOf r a l = cut (l .value) (span (pageBitsOf r) (l .left)) + a .address .0 % span (pageBitsOf r) (l .left)
 
 -- an answer, whether the leaf changes, and its value then
 pub record Decision : Type 0 where
@@ -63,7 +63,7 @@ failing l reads kind = record {
 unfoldable pub passing : Regime → Access → Leaf → ℕ → Decision
 passing r a l reads = record {
   result = success (record {
-    output = record { 0 = outputOf a l };
+    output = record { 0 = outputOf r a l };
     attribute = attributeOf r l;
     shareability = shareability (l .value);
     nonglobal = nonglobal (l .value);
@@ -83,7 +83,7 @@ decision r a l reads = firstFailing (leafTests r a l) (failing l reads) (passing
 
 -- how a held leaf answers an access: with a fault, with a success, or not at all where it would become dirty: that walks again (RULES 10.3)
 unfoldable pub hitKind : Regime → Access → Leaf → HitKind
-hitKind r a l = firstFailing (leafTests r a l) (λ (kind : FaultKind). hits.Fault) (pick (dirtyDue r a l) hits.Miss hits.Success)
+hitKind r a l = firstFailing (leafTests r a l) (λ (kind : FaultKind). hits.Fault kind) (pick (dirtyDue r a l) hits.Miss hits.Success)
 
 -- a verdict of the code, in these values
 abbrev pub seen : Verdict → Decision

@@ -15,7 +15,7 @@ use vmsa::Success;
 // How a held leaf answers an access: with a success, with a fault, or not at all, so that the access walks.
 pub enum HitKind {
     Success,
-    Fault,
+    Fault(FaultKind),
     Miss,
 }
 
@@ -30,8 +30,11 @@ pub struct Verdict {
 pub fn flag_due(r: Regime, a: Access, l: Leaf) -> bool
     ensures { λ b. ⌜ b ≡ flagDue r a l ⌝ }
 {
+    if descriptor::bit(l.value, vmsa::AF) {
+        return false;
+    }
     let kind = a.kind;
-    r.ha & !descriptor::bit(l.value, vmsa::AF) & !kind.is_probe()
+    r.ha & !kind.is_probe()
 }
 
 // Whether the access makes the leaf dirty.
@@ -53,15 +56,17 @@ pub fn updated(flag: bool, dirty: bool, v: u64) -> u64
     descriptor::select(dirty, descriptor::clear_bit(flagged, vmsa::AP2), flagged)
 }
 
-fn output_of(a: Access, l: Leaf) -> u64
+fn output_of(r: Regime, a: Access, l: Leaf) -> u64
     requires { ⌜ l .left ≤ 3 ⌝ }
-    ensures { λ r. ⌜ r ≡ outputOf a l ⌝ }
+    ensures { λ x. ⌜ x ≡ outputOf r a l ⌝ }
 {
-    let span = geometry::span(vmsa::PAGE_BITS, l.left);
-    geometry::cut(l.value, span) + a.address.0 % span
+    let granule = r.granule;
+    let p = granule.page_bits();
+    geometry::output_in(p, l.left, l.value) + a.address.0 % geometry::span(p, l.left)
 }
 
-fn fault_of(l: Leaf, reads: u8, kind: FaultKind) -> Fault
+// The fault of an access that a step stops at a leaf.
+pub fn fault(l: Leaf, reads: u8, kind: FaultKind) -> Fault
     requires { ⌜ l .left ≤ 3 ⌝ }
     ensures { λ f. ⌜ view (Answer.Fault f) ≡ failingAt l reads kind .result ⌝ }
 {
@@ -77,7 +82,7 @@ fn failing(l: Leaf, reads: u8, kind: FaultKind) -> Verdict
     requires { ⌜ l .left ≤ 3 ⌝ }
     ensures { λ v. ⌜ seen v ≡ failingAt l reads kind ⌝ }
 {
-    let fault = fault_of(l, reads, kind);
+    let fault = fault(l, reads, kind);
     Verdict {
         answer: Answer::Fault(fault),
         update: false,
@@ -85,20 +90,20 @@ fn failing(l: Leaf, reads: u8, kind: FaultKind) -> Verdict
     }
 }
 
-// The success of an access that steps 6 to 8 let pass.
-pub fn success(r: Regime, a: Access, l: Leaf, reads: u8) -> Success
-    requires { ⌜ l .left ≤ 3 ⌝ }
+// The success of an access that steps 6 to 8 let pass; dirty: it makes the leaf dirty.
+fn success(r: Regime, a: Access, l: Leaf, dirty: bool, reads: u8) -> Success
+    requires { ⌜ (l .left ≤ 3) × (dirty ≡ dirtyDue r a l) ⌝ }
     ensures { λ s. ⌜ view (Answer.Success s) ≡ passingAt r a l reads .result ⌝ }
 {
     let flag = flag_due(r, a, l);
     Success {
-        output: PhysAddr(output_of(a, l)),
+        output: PhysAddr(output_of(r, a, l)),
         attribute: permission::attribute_of(r, l),
         shareability: descriptor::field(l.value, 8, 2) as u8,
         nonglobal: descriptor::bit(l.value, vmsa::NG),
         level: geometry::level(l.left),
         accessed: flag,
-        dirtied: dirty_due(r, a, l),
+        dirtied: dirty,
         cacheable: descriptor::bit(l.value, vmsa::AF) | flag,
         reads: reads,
     }
@@ -110,7 +115,7 @@ fn passing(r: Regime, a: Access, l: Leaf, reads: u8) -> Verdict
 {
     let flag = flag_due(r, a, l);
     let dirty = dirty_due(r, a, l);
-    let success = success(r, a, l, reads);
+    let success = success(r, a, l, dirty, reads);
     Verdict {
         answer: Answer::Success(success),
         update: flag | dirty,
@@ -141,13 +146,13 @@ pub fn hit_kind(r: Regime, a: Access, l: Leaf) -> HitKind
     ensures { λ s. ⌜ s ≡ hitKind r a l ⌝ }
 {
     if permission::flag_fails(r, l) {
-        return HitKind::Fault;
+        return HitKind::Fault(FaultKind::AccessFlag);
     }
     if permission::alignment_fails(r, a, l) {
-        return HitKind::Fault;
+        return HitKind::Fault(FaultKind::Alignment);
     }
     if permission::permission_fails(r, a, l) {
-        return HitKind::Fault;
+        return HitKind::Fault(FaultKind::Permission);
     }
     if dirty_due(r, a, l) {
         return HitKind::Miss;
@@ -155,16 +160,10 @@ pub fn hit_kind(r: Regime, a: Access, l: Leaf) -> HitKind
     HitKind::Success
 }
 
-// The fault of an access that one of steps 6 to 8 stops.
-pub fn fault(r: Regime, a: Access, l: Leaf, reads: u8) -> Fault
-    requires { ⌜ (0 < a .size) × (l .left ≤ 3) × (hitKind r a l ≡ HitKind.Fault) ⌝ }
-    ensures { λ f. ⌜ view (Answer.Fault f) ≡ decision r a l reads .result ⌝ }
+// The success of an access that a held leaf answers with one, no descriptor being read: it does not make the leaf dirty.
+pub fn hit_success(r: Regime, a: Access, l: Leaf) -> Success
+    requires { ⌜ (l .left ≤ 3) × (hitKind r a l ≡ HitKind.Success) ⌝ }
+    ensures { λ s. ⌜ view (Answer.Success s) ≡ decision r a l 0 .result ⌝ }
 {
-    if permission::flag_fails(r, l) {
-        return fault_of(l, reads, FaultKind::AccessFlag);
-    }
-    if permission::alignment_fails(r, a, l) {
-        return fault_of(l, reads, FaultKind::Alignment);
-    }
-    fault_of(l, reads, FaultKind::Permission)
+    success(r, a, l, false, 0)
 }

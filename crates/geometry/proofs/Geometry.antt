@@ -6,12 +6,17 @@ use native.Mathlib.Omega.{arith}
 use native.Mathlib.Nat.{mul-le-mul, div-lt-iff-lt-mul, le-div-iff-mul-le, div-mul-le-self}
 use lib.Dec.{lit≤, lit<}
 use lib.Pow.{pow-pos, pow-mono}
-use Rattle.vmsa.specs.Limits.{tszLeast, addressLimit, pageBits}
-use Rattle.geometry.specs.Geometry.{shiftOf, span, firstLeft, cut, outputBits, Paged}
+use Rattle.vmsa.specs.Limits.{tszLeast, addressLimit}
+use Rattle.vmsa.specs.Granules.{pageBits, Paged}
+use Rattle.vmsa.specs.declared.Granule.{Granule}
+use Rattle.vmsa.specs.declared.Granule.the-variants.{Kib4, Kib16, Kib64}
+use Rattle.geometry.specs.Geometry.{shiftOf, span, firstLeft, cut, outputBits}
 
--- the 4 KiB granule is one
-pub paged : Paged pageBits
-paged = record { least = lit≤ tt; most = lit≤ tt }
+-- the page bits of each granule
+pub paged : (g : Granule) → Paged (pageBits g)
+paged Kib4 = record { least = lit≤ tt; most = lit≤ tt }
+paged Kib16 = record { least = lit≤ tt; most = lit≤ tt }
+paged Kib64 = record { least = lit≤ tt; most = lit≤ tt }
 
 pub stride-le : (p left : ℕ) → p ≤ 16 → left ≤ 3 → (p - 3) * left ≤ 39
 stride-le p left h k = let a : p - 3 ≤ 13 = omega arith in mul-le-mul a k

@@ -1,5 +1,5 @@
 -- The levels of the tables (RULES 6.2), for a granule of 2 ^ p bytes. A level is named by the number of levels left below it, 0 for level 3.
-use Prim.Native.Nat.{ℕ, _+_, _*_, _-_, _/_, _%_, _^_, _≤_}
+use Prim.Native.Nat.{ℕ, _+_, _*_, _-_, _/_, _%_, _^_}
 use mathlib.Core.Bool.{Bool, not, _&&_}
 use mathlib.Core.List.{List, [], _∷_}
 use lib.Dec.{eqb, leb}
@@ -33,7 +33,7 @@ shiftOf p left = p + (p - 3) * left
 unfoldable pub span : ℕ → ℕ → ℕ
 span p left = 2 ^ shiftOf p left
 
--- whether a level has blocks: above level 3, where an entry maps at most 2 ^ 30 bytes (RULES 6.2: levels 1 and 2)
+-- whether a level has blocks: above level 3, where an entry maps at most 2 ^ 30 bytes (RULES 6.2: levels 1 and 2 for 4 KiB, level 2 for the others)
 unfoldable pub blockAt : ℕ → ℕ → Bool
 blockAt p left = leb 1 left && leb (shiftOf p left) 30
 
@@ -51,8 +51,3 @@ outputBits code = getD (32 ∷ 36 ∷ 40 ∷ 42 ∷ 44 ∷ 48 ∷ []) code 48
 
 unfoldable pub outputLimit : ℕ → ℕ
 outputLimit code = 2 ^ outputBits code
-
--- what holds of the page bits of every granule of VMSAv8-64
-pub record Paged (p : ℕ) : Type 0 where
-  pub least : 12 ≤ p
-  pub most : p ≤ 16

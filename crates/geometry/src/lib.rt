@@ -1,8 +1,9 @@
 // The geometry of the tables, for any granule: pages, levels, what an entry maps, the addresses in a descriptor.
 ghost use mathlib.Core.Path.{_≡_};
 ghost use Prim.Native.Nat.{_≤_, _<_, _^_};
+ghost use Rattle.vmsa.specs.Granules.{Paged};
 ghost use Rattle.vmsa.specs.Limits.{tszLeast, tszMost, outputMost, addressLimit};
-ghost use Rattle.geometry.specs.Geometry.{pageSize as pageSizeOf, unaligned as unalignedAt, pageOf, levelOf, strideBits, shiftOf, span as spanOf, blockAt, firstLeft, cut as cutAt, outputLimit, Paged};
+ghost use Rattle.geometry.specs.Geometry.{pageSize as pageSizeOf, unaligned as unalignedAt, pageOf, levelOf, strideBits, shiftOf, span as spanOf, blockAt, firstLeft, cut as cutAt, outputLimit};
 use vmsa::VirtAddr;
 
 // The bytes of a page, and of a table.
@@ -45,11 +46,12 @@ pub fn level(left: u8) -> u8
 }
 
 // The lowest address bit of a level's index.
-fn shift_of(p: u8, left: u8) -> u8
+fn shift_of(p: u8, left: u8) -> u64
     requires { ⌜ Paged p × (left ≤ 3) ⌝ }
     ensures { λ r. ⌜ (r ≡ shiftOf p left) × (r ≤ 55) ⌝ }
 {
-    p + (p - 3) * left
+    let bits = p as u64;
+    bits + (bits - 3) * (left as u64)
 }
 
 // How many bytes an entry of a level maps.
@@ -57,7 +59,7 @@ pub fn span(p: u8, left: u8) -> u64
     requires { ⌜ Paged p × (left ≤ 3) ⌝ }
     ensures { λ r. ⌜ (r ≡ spanOf p left) × (0 < r) × (r ≤ 2 ^ 55) ⌝ }
 {
-    descriptor::power(shift_of(p, left))
+    1u64 << shift_of(p, left)
 }
 
 // Whether a level has blocks.
@@ -87,12 +89,28 @@ pub fn first_left(p: u8, t: u8) -> u8
     3
 }
 
-// The address in bits 47 down, cut to a multiple of s.
-pub fn cut(v: u64, s: u64) -> u64
-    requires { ⌜ 0 < s ⌝ }
-    ensures { λ r. ⌜ (r ≡ cutAt v s) × (r < addressLimit) ⌝ }
+// The address in bits 47 down to n.
+fn cut(v: u64, n: u64) -> u64
+    requires { ⌜ n < 64 ⌝ }
+    ensures { λ r. ⌜ (r ≡ cutAt v (2 ^ n)) × (r < addressLimit) ⌝ }
 {
-    v % vmsa::ADDRESS_LIMIT / s * s
+    v % vmsa::ADDRESS_LIMIT >> n << n
+}
+
+// The address of a table in its descriptor.
+pub fn table_in(p: u8, v: u64) -> u64
+    requires { ⌜ p ≤ 16 ⌝ }
+    ensures { λ r. ⌜ (r ≡ cutAt v (pageSizeOf p)) × (r < addressLimit) ⌝ }
+{
+    cut(v, p as u64)
+}
+
+// The output address in the descriptor of a block or page.
+pub fn output_in(p: u8, left: u8, v: u64) -> u64
+    requires { ⌜ Paged p × (left ≤ 3) ⌝ }
+    ensures { λ r. ⌜ (r ≡ cutAt v (spanOf p left)) × (r < addressLimit) ⌝ }
+{
+    cut(v, shift_of(p, left))
 }
 
 // The end of the output addresses.

@@ -11,7 +11,8 @@ use Rattle.descriptor.specs.Bits.{pick, bit}
 use Rattle.descriptor.proofs.Tests.{clash, and-true, or-false, differ, pick-both}
 use Rattle.vmsa.specs.Limits.{addressLimit}
 use Rattle.vmsa.specs.Fields.{tableBits}
-use Rattle.geometry.specs.Geometry.{pageSize, shiftOf, span, blockAt, cut, Paged}
+use Rattle.vmsa.specs.Granules.{Paged}
+use Rattle.geometry.specs.Geometry.{pageSize, shiftOf, span, blockAt, cut}
 use Rattle.geometry.proofs.Geometry.{cut-lt, shift-least}
 use Rattle.vmsa.specs.declared.PhysAddr.{PhysAddr}
 use Rattle.vmsa.specs.declared.FaultKind.the-variants.{Translation, AddressSize}

@@ -8,7 +8,7 @@ use lib.Dec.{eqb}
 use borrow.Author.Tests.{eqb-false, not-true, le-leb, lt-leb}
 use Rattle.descriptor.specs.Bits.{bit}
 use Rattle.descriptor.proofs.Tests.{and-true}
-use Rattle.vmsa.specs.Limits.{pageBits}
+use Rattle.vmsa.specs.Granules.{pageBitsOf}
 use Rattle.vmsa.specs.Fields.{noTables, withTable}
 use Rattle.geometry.specs.Geometry.{levelOf, firstLeft, outputLimit}
 use Rattle.vmsa.specs.declared.Regime.{Regime}
@@ -69,12 +69,12 @@ module _ (r : Regime) (read : ℕ → Word) (a : ℕ) (range : Range) (e : range
   unfolding lookup locate
   locate-root h q = rw (rw e at h, le-leb (outputLimit (r .output)) (rangeOf r a .root .0) (rw e at q))
 
-  pub locate-go : (range .disabled || outside (range .tsz) a) ≡ false → (limit power left : ℕ) → limit ≡ outputLimit (r .output) → range .root .0 < limit
-      → power ≡ 2 ^ (64 - range .tsz) → left ≡ firstLeft pageBits (range .tsz)
-      → (c : Context) → c ≡ context (r .pool .address) (record { 0 = limit }) (record { 0 = a % power }) pageBits
+  pub locate-go : (range .disabled || outside (range .tsz) a) ≡ false → (limit power page left : ℕ) → limit ≡ outputLimit (r .output) → range .root .0 < limit
+      → power ≡ 2 ^ (64 - range .tsz) → page ≡ pageBitsOf r → left ≡ firstLeft page (range .tsz)
+      → (c : Context) → c ≡ context (r .pool .address) (record { 0 = limit }) (record { 0 = a % power }) page
       → locate r read a ≡ underHpd (range .hpd) (descend c read (suc left) noTables (range .root .0))
   unfolding lookup locate contextOf
-  locate-go h limit power left el q ep ef c ec =
+  locate-go h limit power page left el q ep eg ef c ec =
       let h2 : (rangeOf r a .disabled || outside (rangeOf r a .tsz) a) ≡ false = rw e at h in
       let q2 : rangeOf r a .root .0 < outputLimit (r .output) = rw (e, el) at q in
-      rw (h2, lt-leb (outputLimit (r .output)) (rangeOf r a .root .0) q2, ec, ef, ep, el, e)
+      rw (h2, lt-leb (outputLimit (r .output)) (rangeOf r a .root .0) q2, ec, ef, eg, ep, el, e)

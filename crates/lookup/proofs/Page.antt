@@ -6,7 +6,9 @@ use native.Mathlib.Omega.{arith}
 use lib.Dec.{leb, eqb}
 use lib.Pow.{shr-shr, field}
 use Rattle.descriptor.specs.Bits.{pick, bit}
-use Rattle.vmsa.specs.Limits.{pageBits, tszMost, Sized}
+use Rattle.vmsa.specs.Limits.{tszMost, Sized}
+use Rattle.vmsa.specs.Granules.{pageBitsOf}
+use Rattle.geometry.proofs.Geometry.{paged}
 use Rattle.geometry.specs.Geometry.{levelOf, pageSize, pageOf, shiftOf, span, strideBits, firstLeft, outputLimit}
 use Rattle.vmsa.specs.declared.Regime.{Regime}
 use Rattle.vmsa.specs.declared.Range.{Range}
@@ -19,29 +21,29 @@ use Rattle.lookup.specs.Trace.{fault, Trace, ended, visit, underHpd}
 use Rattle.lookup.specs.Steps.{onWord, followed, entryAt, entered, descend, upper, rangeOf, outside, contextOf, lookup, locate}
 
 -- a cut at bit n above the page bits sees the page alone
-cut-page : (a b n : ℕ) → 12 ≤ n → a / 4096 ≡ b / 4096 → a / 2 ^ n ≡ b / 2 ^ n
-cut-page a b n h e =
-    let q : n ≡ 12 + (n - 12) = omega arith in
-    let step : (x : ℕ) → x / 2 ^ n ≡ x / 4096 / 2 ^ (n - 12) = λ x. ap (λ (j : ℕ). x / 2 ^ j) q ∙ sym (shr-shr x 12 (n - 12)) in
+cut-page : (p a b n : ℕ) → p ≤ n → a / 2 ^ p ≡ b / 2 ^ p → a / 2 ^ n ≡ b / 2 ^ n
+cut-page p a b n h e =
+    let q : n ≡ p + (n - p) = omega arith in
+    let step : (x : ℕ) → x / 2 ^ n ≡ x / 2 ^ p / 2 ^ (n - p) = λ x. ap (λ (j : ℕ). x / 2 ^ j) q ∙ sym (shr-shr x p (n - p)) in
     step a ∙ rw e (sym (step b))
 
-mod-page : (a b n : ℕ) → 12 ≤ n → a / 4096 ≡ b / 4096 → a % 2 ^ n / 4096 ≡ b % 2 ^ n / 4096
-mod-page a b n h e =
-    let q : n ≡ (n - 12) + 12 = omega arith in
-    let step : (x : ℕ) → x % 2 ^ n / 4096 ≡ x / 4096 % 2 ^ (n - 12) = λ x. ap (λ (j : ℕ). x % 2 ^ j / 4096) q ∙ field x (n - 12) 12 in
+mod-page : (p a b n : ℕ) → p ≤ n → a / 2 ^ p ≡ b / 2 ^ p → a % 2 ^ n / 2 ^ p ≡ b % 2 ^ n / 2 ^ p
+mod-page p a b n h e =
+    let q : n ≡ (n - p) + p = omega arith in
+    let step : (x : ℕ) → x % 2 ^ n / 2 ^ p ≡ x / 2 ^ p % 2 ^ (n - p) = λ x. ap (λ (j : ℕ). x % 2 ^ j / 2 ^ p) q ∙ field x (n - p) p in
     step a ∙ rw e (sym (step b))
 
 -- ---- any number of levels
 
-module _ (base limit : PhysAddr) (p : ℕ) (least : 12 ≤ p) where
+module _ (base limit : PhysAddr) (p : ℕ) where
   abbrev with-input : ℕ → Context
   with-input i = record { base = base; limit = limit; input = record { 0 = i }; page = p }
 
-  entry-page : (i j left t : ℕ) → i / 4096 ≡ j / 4096 → entryAt (with-input i) left t ≡ entryAt (with-input j) left t
+  entry-page : (i j left t : ℕ) → i / 2 ^ p ≡ j / 2 ^ p → entryAt (with-input i) left t ≡ entryAt (with-input j) left t
   unfolding entryAt span shiftOf
-  entry-page i j left t e = ap (λ (x : ℕ). t + 8 * (x % 2 ^ strideBits p)) (cut-page i j (p + (p - 3) * left) (omega arith) e)
+  entry-page i j left t e = ap (λ (x : ℕ). t + 8 * (x % 2 ^ strideBits p)) (cut-page p i j (p + (p - 3) * left) (omega arith) e)
 
-  descend-page : (read : ℕ → Word) (i j : ℕ) → i / 4096 ≡ j / 4096 → (n s t : ℕ) → descend (with-input i) read n s t ≡ descend (with-input j) read n s t
+  descend-page : (read : ℕ → Word) (i j : ℕ) → i / 2 ^ p ≡ j / 2 ^ p → (n s t : ℕ) → descend (with-input i) read n s t ≡ descend (with-input j) read n s t
   unfolding descend entered followed
   descend-page read i j e zero s t = refl
   descend-page read i j e (suc n) s t =
@@ -53,10 +55,13 @@ module _ (base limit : PhysAddr) (p : ℕ) (least : 12 ≤ p) where
 
 -- ---- steps 1 to 5
 
-module _ (r : Regime) (a b : ℕ) (e : a / 4096 ≡ b / 4096) where
+module _ (r : Regime) (a b : ℕ) (e : a / 2 ^ pageBitsOf r ≡ b / 2 ^ pageBitsOf r) where
+  page-most : pageBitsOf r ≤ 16
+  page-most = paged (r .granule) .most
+
   upper-page : upper a ≡ upper b
   unfolding upper
-  upper-page = ap (λ (x : ℕ). eqb (x % 2) 1) (cut-page a b 55 (omega arith) e)
+  upper-page = ap (λ (x : ℕ). eqb (x % 2) 1) (cut-page (pageBitsOf r) a b 55 (omega (arith, page-most)) e)
 
   range-page : rangeOf r a ≡ rangeOf r b
   unfolding rangeOf
@@ -64,18 +69,18 @@ module _ (r : Regime) (a b : ℕ) (e : a / 4096 ≡ b / 4096) where
 
   outside-page : (t : ℕ) → t ≤ tszMost → outside t a ≡ outside t b
   unfolding outside
-  outside-page t h = rw (upper-page, cut-page a b (64 - t) (omega arith) e)
+  outside-page t h = rw (upper-page, cut-page (pageBitsOf r) a b (64 - t) (omega (arith, page-most)) e)
 
   descent : Range → (ℕ → Word) → ℕ → Trace
   descent range read x =
-      descend (record { base = r .pool .address; limit = record { 0 = outputLimit (r .output) }; input = record { 0 = x % 2 ^ (64 - range .tsz) }; page = pageBits }) read (suc (firstLeft pageBits (range .tsz))) noTables
+      descend (record { base = r .pool .address; limit = record { 0 = outputLimit (r .output) }; input = record { 0 = x % 2 ^ (64 - range .tsz) }; page = pageBitsOf r }) read (suc (firstLeft (pageBitsOf r) (range .tsz))) noTables
       (range .root .0)
 
   descent-page : (range : Range) (read : ℕ → Word) → range .tsz ≤ tszMost → descent range read a ≡ descent range read b
   unfolding descent
   descent-page range read h =
-      descend-page (r .pool .address) (record { 0 = outputLimit (r .output) }) pageBits (omega arith) read (a % 2 ^ (64 - range .tsz)) (b % 2 ^ (64 - range .tsz))
-      (mod-page a b (64 - range .tsz) (omega arith) e) (suc (firstLeft pageBits (range .tsz))) noTables (range .root .0)
+      descend-page (r .pool .address) (record { 0 = outputLimit (r .output) }) (pageBitsOf r) read (a % 2 ^ (64 - range .tsz)) (b % 2 ^ (64 - range .tsz))
+      (mod-page (pageBitsOf r) a b (64 - range .tsz) (omega (arith, page-most)) e) (suc (firstLeft (pageBitsOf r) (range .tsz))) noTables (range .root .0)
 
   opened : (read : ℕ → Word) (x : ℕ) (range : Range) → rangeOf r x ≡ range
       → locate r read x
@@ -92,7 +97,7 @@ range-most r a z = by (upper a)
     by true = z .most1
     by false = z .most0
 
-pub locate-page : (r : Regime) (read : ℕ → Word) (a b : ℕ) → Sized r → pageOf pageBits a ≡ pageOf pageBits b → locate r read a ≡ locate r read b
+pub locate-page : (r : Regime) (read : ℕ → Word) (a b : ℕ) → Sized r → pageOf (pageBitsOf r) a ≡ pageOf (pageBitsOf r) b → locate r read a ≡ locate r read b
 unfolding pageOf pageSize
 locate-page r read a b z e =
     let range = rangeOf r b in

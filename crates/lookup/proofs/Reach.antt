@@ -11,11 +11,12 @@ use borrow.Author.Tests.{leb-true}
 use Rattle.descriptor.specs.Bytes.{desc}
 use Rattle.descriptor.specs.Bits.{pick}
 use Rattle.descriptor.proofs.Tests.{clash, and-true, pick-both}
-use Rattle.vmsa.specs.Limits.{pageBits, tszLeast, Sized}
+use Rattle.vmsa.specs.Limits.{tszLeast, Sized}
 use Rattle.vmsa.specs.Fields.{sumCount, noTables, withTable}
 use Rattle.vmsa.proofs.Tables.{sum-below}
 use Rattle.vmsa.specs.declared.Leaf.{Leaf}
-use Rattle.geometry.specs.Geometry.{levelOf, firstLeft, outputLimit, Paged}
+use Rattle.vmsa.specs.Granules.{pageBitsOf, Paged}
+use Rattle.geometry.specs.Geometry.{levelOf, firstLeft, outputLimit}
 use Rattle.geometry.proofs.Geometry.{paged, first-le}
 use Rattle.vmsa.specs.declared.Regime.{Regime}
 use Rattle.vmsa.specs.declared.PhysAddr.{PhysAddr}
@@ -95,12 +96,12 @@ unfolding lookup locate
 locate-visited r read a z =
     let range = rangeOf r a in
     let c = contextOf r a in
-    let deep = descend c read (suc (firstLeft pageBits (range .tsz))) noTables (range .root .0) in
+    let deep = descend c read (suc (firstLeft (pageBitsOf r) (range .tsz))) noTables (range .root .0) in
     let short : Trace → Type 0 = λ t. length (t .visited) ≤ 4 in
     let beyond = leb (outputLimit (r .output)) (range .root .0) in
     let h : length (deep .visited) ≤ 4 =
-    (let v = descend-visited c read (suc (firstLeft pageBits (range .tsz))) noTables (range .root .0) in
-    let f = first-le pageBits (range .tsz) paged (range-least r a z) in
+    (let v = descend-visited c read (suc (firstLeft (pageBitsOf r) (range .tsz))) noTables (range .root .0) in
+    let f = first-le (pageBitsOf r) (range .tsz) (paged (r .granule)) (range-least r a z) in
     omega arith) in
     pick-both short (range .disabled || outside (range .tsz) a) (ended (fault Translation 0)) (pick beyond (ended (fault AddressSize 0)) deep) zero-le
     (pick-both short beyond (ended (fault AddressSize 0)) deep zero-le h)
@@ -139,7 +140,7 @@ locate-read r read a {at} {l} q = subst (ReadOnce (locate r read a)) q (hpd-once
     once r read a =
         let range = rangeOf r a in
         picked (range .disabled || outside (range .tsz) a) (leb (outputLimit (r .output)) (range .root .0))
-        (descend (contextOf r a) read (suc (firstLeft pageBits (range .tsz))) noTables (range .root .0)) (read-once (contextOf r a) read (firstLeft pageBits (range .tsz)) noTables (range .root .0))
+        (descend (contextOf r a) read (suc (firstLeft (pageBitsOf r) (range .tsz))) noTables (range .root .0)) (read-once (contextOf r a) read (firstLeft (pageBitsOf r) (range .tsz)) noTables (range .root .0))
 
 -- ---- a leaf that is reached
 
@@ -198,7 +199,7 @@ descend-backed c ee pool base n s t h z =
 
 pub context-paged : (r : Regime) (a : ℕ) → Paged (contextOf r a .page)
 unfolding contextOf
-context-paged r a = paged
+context-paged r a = paged (r .granule)
 
 -- what holds of a leaf under tables holds of it under none
 hpd-good : (c : Context) (read : ℕ → Word) (hpd : Bool) (e : End) → Good c read e → Good c read (endUnderHpd hpd e)
@@ -220,25 +221,25 @@ unfolding lookup locate
 locate-good r read a z e =
     let range = rangeOf r a in
     let c = contextOf r a in
-    let deep = descend c read (suc (firstLeft pageBits (range .tsz))) noTables (range .root .0) in
+    let deep = descend c read (suc (firstLeft (pageBitsOf r) (range .tsz))) noTables (range .root .0) in
     let good : Trace → Type 0 = λ t. Good c read (t .end) in
     let beyond = leb (outputLimit (r .output)) (range .root .0) in
     hpd-good c read (range .hpd) (lookup r read a .end)
     (pick-both good (range .disabled || outside (range .tsz) a) (ended (fault Translation 0)) (pick beyond (ended (fault AddressSize 0)) deep) tt
     (pick-both good beyond (ended (fault AddressSize 0)) deep tt
-    (descend-good c read (context-paged r a) (suc (firstLeft pageBits (range .tsz))) noTables (range .root .0) (suc-le-suc (first-le pageBits (range .tsz) paged (range-least r a z))) (lit< tt) e)))
+    (descend-good c read (context-paged r a) (suc (firstLeft (pageBitsOf r) (range .tsz))) noTables (range .root .0) (suc-le-suc (first-le (pageBitsOf r) (range .tsz) (paged (r .granule)) (range-least r a z))) (lit< tt) e)))
 
 pub locate-backed : (r : Regime) (ee : Bool) (pool : List ℕ) (base a : ℕ) → Sized r → Backed ee pool base (locate r (fetched ee pool base) a .end)
 unfolding lookup locate
 locate-backed r ee pool base a z =
     let range = rangeOf r a in
-    let deep = descend (contextOf r a) (fetched ee pool base) (suc (firstLeft pageBits (range .tsz))) noTables (range .root .0) in
+    let deep = descend (contextOf r a) (fetched ee pool base) (suc (firstLeft (pageBitsOf r) (range .tsz))) noTables (range .root .0) in
     let backed : Trace → Type 0 = λ t. Backed ee pool base (t .end) in
     let beyond = leb (outputLimit (r .output)) (range .root .0) in
     hpd-backed ee pool base (range .hpd) (lookup r (fetched ee pool base) a .end)
     (pick-both backed (range .disabled || outside (range .tsz) a) (ended (fault Translation 0)) (pick beyond (ended (fault AddressSize 0)) deep) (lit≤ tt)
     (pick-both backed beyond (ended (fault AddressSize 0)) deep (lit≤ tt)
-    (descend-backed (contextOf r a) ee pool base (suc (firstLeft pageBits (range .tsz))) noTables (range .root .0) (suc-le-suc (first-le pageBits (range .tsz) paged (range-least r a z))) (lit< tt))))
+    (descend-backed (contextOf r a) ee pool base (suc (firstLeft (pageBitsOf r) (range .tsz))) noTables (range .root .0) (suc-le-suc (first-le (pageBitsOf r) (range .tsz) (paged (r .granule)) (range-least r a z))) (lit< tt))))
 
 -- ---- the reader over a pool
 

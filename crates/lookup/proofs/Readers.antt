@@ -7,9 +7,9 @@ use mathlib.Core.Path.{_≡_, refl, sym, ap, subst, subst⁻¹, _∙_}
 use lib.Bits.{bitOr}
 use lib.Dec.{leb}
 use Rattle.descriptor.specs.Bits.{pick}
-use Rattle.vmsa.specs.Limits.{pageBits}
 use Rattle.vmsa.specs.Fields.{tableBits, noTables, withTable}
-use Rattle.geometry.specs.Geometry.{levelOf, firstLeft, outputLimit, Paged}
+use Rattle.vmsa.specs.Granules.{pageBitsOf, Paged}
+use Rattle.geometry.specs.Geometry.{levelOf, firstLeft, outputLimit}
 use Rattle.vmsa.specs.declared.Regime.{Regime}
 use Rattle.vmsa.specs.declared.FaultKind.{FaultKind}
 use Rattle.vmsa.specs.declared.FaultKind.the-variants.{ExternalAbort, Translation, AddressSize}
@@ -84,7 +84,7 @@ locate-alike R r a unseen same read read2 alike e =
     let range = rangeOf r a in
     let t =
     by (range .disabled || outside (range .tsz) a) (leb (outputLimit (r .output)) (range .root .0))
-    (descend-alike R (contextOf r a) (context-paged r a) unseen same read read2 alike (suc (firstLeft pageBits (range .tsz))) noTables (range .root .0) e) in
+    (descend-alike R (contextOf r a) (context-paged r a) unseen same read read2 alike (suc (firstLeft (pageBitsOf r) (range .tsz))) noTables (range .root .0) e) in
     record { visited = t .visited; ends = hpd-alike R (range .hpd) (t .ends) }
   where
     by : {t u : Trace} (off beyond : Bool) → AlikeTraces R t u

@@ -8,7 +8,7 @@ use lib.Bits.{or-zero-r}
 use lib.Dec.{leb}
 use lib.ListN.{length, getD}
 use Rattle.descriptor.specs.Bits.{pick}
-use Rattle.vmsa.specs.Limits.{pageBits}
+use Rattle.vmsa.specs.Granules.{pageBitsOf}
 use Rattle.vmsa.specs.Fields.{tableBits, sumCount, noTables, withTable}
 use Rattle.geometry.specs.Geometry.{levelOf, firstLeft, outputLimit}
 use Rattle.vmsa.proofs.Tables.{sum-below}
@@ -80,8 +80,8 @@ module _ (read : ℕ → Word) where
       let range = rangeOf r a in
       hpd-sum (range .hpd) (lookup r read a .visited) (lookup r read a .end)
       (by (range .disabled || outside (range .tsz) a) (leb (outputLimit (r .output)) (range .root .0))
-      (descend (contextOf r a) read (suc (firstLeft pageBits (range .tsz))) noTables (range .root .0))
-      (descend-sum (contextOf r a) (suc (firstLeft pageBits (range .tsz))) noTables (range .root .0)))
+      (descend (contextOf r a) read (suc (firstLeft (pageBitsOf r) (range .tsz))) noTables (range .root .0))
+      (descend-sum (contextOf r a) (suc (firstLeft (pageBitsOf r) (range .tsz))) noTables (range .root .0)))
     where
       by : (off beyond : Bool) (t : Trace) → SumIs false noTables (t .visited) (t .end)
           → SumIs false noTables (pick off (ended (fault Translation 0)) (pick beyond (ended (fault AddressSize 0)) t) .visited)

@@ -6,7 +6,8 @@ use lib.Dec.{leb, eqb}
 use lib.ListN.{length}
 use Rattle.descriptor.specs.Bytes.{desc}
 use Rattle.descriptor.specs.Bits.{pick, bit}
-use Rattle.vmsa.specs.Limits.{addressLimit, pageBits}
+use Rattle.vmsa.specs.Limits.{addressLimit}
+use Rattle.vmsa.specs.Granules.{pageBitsOf}
 use Rattle.vmsa.specs.Fields.{noTables, withTable}
 use Rattle.geometry.specs.Geometry.{levelOf, pageSize, span, strideBits, blockAt, firstLeft, cut, outputLimit}
 use Rattle.vmsa.specs.declared.Regime.{Regime}
@@ -99,14 +100,14 @@ outside t a = not (eqb (a / 2 ^ (64 - t)) (pick (upper a) (2 ^ t - 1) 0))
 
 -- what the levels share: the index is cut at the first level to bits below 64 - t
 unfoldable pub contextOf : Regime → ℕ → Context
-contextOf r a = record { base = r .pool .address; limit = record { 0 = outputLimit (r .output) }; input = record { 0 = a % 2 ^ (64 - rangeOf r a .tsz) }; page = pageBits }
+contextOf r a = record { base = r .pool .address; limit = record { 0 = outputLimit (r .output) }; input = record { 0 = a % 2 ^ (64 - rangeOf r a .tsz) }; page = pageBitsOf r }
 
 -- steps 1 to 5, a leaf under the sum of all tables on the way
 unfoldable pub lookup : Regime → (ℕ → Word) → ℕ → Trace
 lookup r read a =
     pick (rangeOf r a .disabled || outside (rangeOf r a .tsz) a) (ended (fault Translation 0))
     (pick (leb (outputLimit (r .output)) (rangeOf r a .root .0)) (ended (fault AddressSize 0))
-    (descend (contextOf r a) read (suc (firstLeft pageBits (rangeOf r a .tsz))) noTables (rangeOf r a .root .0)))
+    (descend (contextOf r a) read (suc (firstLeft (pageBitsOf r) (rangeOf r a .tsz))) noTables (rangeOf r a .root .0)))
 
 -- the same, the tables counting unless HPD of the address's range is on (RULES 6.11)
 unfoldable pub locate : Regime → (ℕ → Word) → ℕ → Trace

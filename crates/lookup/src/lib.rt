@@ -3,7 +3,8 @@ ghost use mathlib.Core.Path.{_≡_};
 ghost use Prim.Native.Nat.{suc, _+_, _*_, _≤_, _<_, _^_};
 ghost use Rattle.vmsa.specs.Limits.{addressLimit, tszLeast, tszMost, Sized};
 ghost use Rattle.vmsa.specs.Fields.{tableBits, sumCount};
-ghost use Rattle.geometry.specs.Geometry.{levelOf, Paged};
+ghost use Rattle.vmsa.specs.Granules.{Paged};
+ghost use Rattle.geometry.specs.Geometry.{levelOf};
 ghost use Rattle.lookup.specs.Trace.{fault, ended, underHpd, shown};
 ghost use Rattle.lookup.specs.Steps.{isTable, decoded, Sound, fetched, poolReader, context, entryAt, followed, descend, upper as upperAt, rangeOf, outside as outsideAt, locate as locateAt};
 ghost use Rattle.lookup.specs.Packing.{kindNumber, kindNumbered, joined, packed, Packs};
@@ -128,7 +129,7 @@ pub fn decode(p: u8, limit: PhysAddr, left: u8, v: u64) -> Next
         return Next::Fault(FaultKind::Translation);
     }
     if is_table(left, v) {
-        let table = PhysAddr(geometry::cut(v, geometry::page_size(p)));
+        let table = PhysAddr(geometry::table_in(p, v));
         if limit.0 <= table.0 {
             return Next::Fault(FaultKind::AddressSize);
         }
@@ -137,7 +138,7 @@ pub fn decode(p: u8, limit: PhysAddr, left: u8, v: u64) -> Next
     if !descriptor::bit(v, 1) & !geometry::block_at(p, left) {
         return Next::Fault(FaultKind::Translation);
     }
-    if limit.0 <= geometry::cut(v, geometry::span(p, left)) {
+    if limit.0 <= geometry::output_in(p, left, v) {
         return Next::Fault(FaultKind::AddressSize);
     }
     Next::Leaf
@@ -292,17 +293,9 @@ pub fn locate(pool: &[u8], r: Regime, a: VirtAddr) -> Located
     }
     let base = r.pool.address;
     let input = VirtAddr(a.0 % descriptor::power(64 - t));
-    let left = geometry::first_left(vmsa::PAGE_BITS, t);
-    let n = enter(
-        pool,
-        root,
-        input,
-        left,
-        base,
-        r.ee,
-        vmsa::PAGE_BITS,
-        limit,
-        0,
-    );
+    let granule = r.granule;
+    let page = granule.page_bits();
+    let left = geometry::first_left(page, t);
+    let n = enter(pool, root, input, left, base, r.ee, page, limit, 0);
     unpack(pool, r.ee, base, range.hpd, geometry::level(left), n)
 }

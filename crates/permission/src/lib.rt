@@ -42,7 +42,10 @@ pub fn clean(r: Regime, l: Leaf) -> bool
 fn user(l: Leaf) -> bool
     ensures { λ b. ⌜ b ≡ userOf l ⌝ }
 {
-    descriptor::bit(l.value, vmsa::AP1) & !below(l, vmsa::NO_USER_BELOW)
+    if descriptor::bit(l.value, vmsa::AP1) {
+        return !below(l, vmsa::NO_USER_BELOW);
+    }
+    false
 }
 
 fn uxn(l: Leaf) -> bool

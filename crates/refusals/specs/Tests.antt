@@ -2,7 +2,8 @@
 use Prim.Native.Nat.{ℕ, zero, suc, _+_, _-_, _%_, _^_}
 use mathlib.Core.Bool.{Bool, true, false, not, _&&_, _||_}
 use lib.Dec.{leb, ltb, eqb}
-use Rattle.vmsa.specs.Limits.{memoryLimit, poolLimit, addressLimit, tszLeast, tszMost, outputMost, pageBits}
+use Rattle.vmsa.specs.Limits.{memoryLimit, poolLimit, addressLimit, tszLeast, tszMost, outputMost}
+use Rattle.vmsa.specs.Granules.{pageBitsOf}
 use Rattle.geometry.specs.Geometry.{unaligned, pageOf}
 use Rattle.vmsa.specs.Kinds.{isFetch, isProbe}
 use Rattle.vmsa.specs.Attributes.{attribute, device, normal}
@@ -11,15 +12,15 @@ use Rattle.vmsa.specs.declared.Pool.{Pool}
 use Rattle.vmsa.specs.declared.Range.{Range}
 use Rattle.vmsa.specs.declared.Access.{Access}
 
--- 1: memory above its limit; pool start or length not a multiple of 4,096; length 0 or above its limit; pool passes the end of memory
-unfoldable pub memoryPoolBad : ℕ → Pool → Bool
-memoryPoolBad n pool =
-    ltb memoryLimit n || unaligned pageBits (pool .start) || unaligned pageBits (pool .length) || eqb (pool .length) 0 || ltb poolLimit (pool .length)
-    || ltb n (pool .start + pool .length)
+-- 1: memory above its limit; pool start or length not a multiple of the granule; length 0 or above its limit; pool passes the end of memory
+unfoldable pub memoryPoolBad : ℕ → Regime → Bool
+memoryPoolBad n r =
+    ltb memoryLimit n || unaligned (pageBitsOf r) (r .pool .start) || unaligned (pageBitsOf r) (r .pool .length) || eqb (r .pool .length) 0
+    || ltb poolLimit (r .pool .length) || ltb n (r .pool .start + r .pool .length)
 
--- 2: pool address not a multiple of 4,096, or address + length above 2^48
-unfoldable pub poolAddressBad : Pool → Bool
-poolAddressBad pool = unaligned pageBits (pool .address .0) || ltb addressLimit (pool .address .0 + pool .length)
+-- 2: pool address not a multiple of the granule, or address + length above 2^48
+unfoldable pub poolAddressBad : Regime → Bool
+poolAddressBad r = unaligned (pageBitsOf r) (r .pool .address .0) || ltb addressLimit (r .pool .address .0 + r .pool .length)
 
 -- 3: T of either range outside 16..39, or output code above 5
 unfoldable pub tszBad : ℕ → Bool
@@ -28,12 +29,12 @@ tszBad t = ltb t tszLeast || ltb tszMost t
 unfoldable pub sizesBad : Regime → Bool
 sizesBad r = tszBad (r .range0 .tsz) || tszBad (r .range1 .tsz) || ltb outputMost (r .output)
 
--- 4: either root not a multiple of 4,096, or not below 2^48
-unfoldable pub rootBad : ℕ → Bool
-rootBad root = unaligned pageBits root || leb addressLimit root
+-- 4: either root not a multiple of the granule, or not below 2^48
+unfoldable pub rootBad : ℕ → ℕ → Bool
+rootBad p root = unaligned p root || leb addressLimit root
 
 unfoldable pub rootsBad : Regime → Bool
-rootsBad r = rootBad (r .range0 .root .0) || rootBad (r .range1 .root .0)
+rootsBad r = rootBad (pageBitsOf r) (r .range0 .root .0) || rootBad (pageBitsOf r) (r .range1 .root .0)
 
 -- 5: an attribute byte is neither Device nor Normal
 abbrev pub someBelow : ℕ → (ℕ → Bool) → Bool
@@ -51,18 +52,21 @@ unfoldable pub dirtyStateBad : Regime → Bool
 dirtyStateBad r = r .hd && not (r .ha)
 
 -- 6: size not 1, 2, 4, 8, 16; a fetch whose size is not 4 or address not a multiple of 4; a probe with size not 1
+unfoldable pub sizeBad : ℕ → Bool
+sizeBad size = not (eqb size 1 || eqb size 2 || eqb size 4 || eqb size 8 || eqb size 16)
+
 unfoldable pub accessSizeBad : Access → Bool
 accessSizeBad a =
-    not (eqb (a .size) 1 || eqb (a .size) 2 || eqb (a .size) 4 || eqb (a .size) 8 || eqb (a .size) 16)
+    sizeBad (a .size)
     || isFetch (a .kind) && (not (eqb (a .size) 4) || not (eqb (a .address .0 % 4) 0))
     || isProbe (a .kind) && not (eqb (a .size) 1)
 
--- 7: first and last byte (counted modulo 2^64) lie in different 4 KiB pages
+-- 7: first and last byte (counted modulo 2^64) lie in different pages of the granule
 unfoldable pub lastByte : Access → ℕ
 lastByte a = (a .address .0 + (a .size - 1)) % 2 ^ 64
 
-unfoldable pub crossing : Access → Bool
-crossing a = not (eqb (pageOf pageBits (a .address .0)) (pageOf pageBits (lastByte a)))
+unfoldable pub crossing : Regime → Access → Bool
+crossing r a = not (eqb (pageOf (pageBitsOf r) (a .address .0)) (pageOf (pageBitsOf r) (lastByte a)))
 
 -- 8: a store's physical address is not a multiple of 8, or its 8 bytes are not all in the pool
 unfoldable pub storeAddressBad : Pool → ℕ → Bool

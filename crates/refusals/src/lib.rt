@@ -2,12 +2,19 @@
 ghost use mathlib.Core.Path.{_≡_};
 ghost use Prim.Native.Nat.{_+_, _-_};
 ghost use lib.Dec.{ltb};
-ghost use Rattle.refusals.specs.Tests.{memoryPoolBad, poolAddressBad, tszBad, sizesBad, rootBad, rootsBad, attributeBad, attributesBad, dirtyStateBad, accessSizeBad, lastByte, crossing, storeAddressBad};
+ghost use Rattle.vmsa.specs.Granules.{Paged};
+ghost use Rattle.refusals.specs.Tests.{memoryPoolBad, poolAddressBad, tszBad, sizesBad, rootBad, rootsBad, attributesBad, dirtyStateBad, accessSizeBad, lastByte, crossing, storeAddressBad};
 use vmsa::Access;
 use vmsa::PhysAddr;
 use vmsa::Pool;
 use vmsa::Regime;
 use vmsa::VirtAddr;
+
+// The lowest bit of each byte of a u64.
+const LOWEST_BITS: u64 = 72340172838076673;
+
+// Bits 1, 2, 4, 8 and 16: the sizes of an access.
+const SIZES: u64 = 65814;
 
 // Whether start + length is above n.
 fn passes(n: usize, start: usize, length: usize) -> bool
@@ -20,27 +27,32 @@ fn passes(n: usize, start: usize, length: usize) -> bool
 }
 
 // 1: of the memory and the pool's part of it.
-pub fn memory_pool_bad(n: usize, pool: Pool) -> bool
-    ensures { λ r. ⌜ r ≡ memoryPoolBad n pool ⌝ }
+pub fn memory_pool_bad(n: usize, r: Regime) -> bool
+    ensures { λ b. ⌜ b ≡ memoryPoolBad n r ⌝ }
 {
+    let granule = r.granule;
+    let p = granule.page_bits();
+    let pool = r.pool;
     (vmsa::MEMORY_LIMIT < n)
-        | geometry::unaligned(vmsa::PAGE_BITS, pool.start as u64)
-        | geometry::unaligned(vmsa::PAGE_BITS, pool.length as u64)
+        | geometry::unaligned(p, pool.start as u64)
+        | geometry::unaligned(p, pool.length as u64)
         | (pool.length == 0)
         | (vmsa::POOL_LIMIT < pool.length)
         | passes(n, pool.start, pool.length)
 }
 
 // 2: of the pool's address.
-pub fn pool_address_bad(pool: Pool) -> bool
-    ensures { λ r. ⌜ r ≡ poolAddressBad pool ⌝ }
+pub fn pool_address_bad(r: Regime) -> bool
+    ensures { λ b. ⌜ b ≡ poolAddressBad r ⌝ }
 {
+    let granule = r.granule;
+    let p = granule.page_bits();
+    let pool = r.pool;
     let address = pool.address.0;
     if vmsa::ADDRESS_LIMIT < address {
         return true;
     }
-    geometry::unaligned(vmsa::PAGE_BITS, address)
-        | (vmsa::ADDRESS_LIMIT - address < (pool.length as u64))
+    geometry::unaligned(p, address) | (vmsa::ADDRESS_LIMIT - address < (pool.length as u64))
 }
 
 fn tsz_bad(t: u8) -> bool
@@ -56,37 +68,33 @@ pub fn sizes_bad(r: Regime) -> bool
     tsz_bad(r.range0.tsz) | tsz_bad(r.range1.tsz) | (vmsa::OUTPUT_MOST < r.output)
 }
 
-fn root_bad(root: PhysAddr) -> bool
-    ensures { λ r. ⌜ r ≡ rootBad (root .0) ⌝ }
+fn root_bad(p: u8, root: PhysAddr) -> bool
+    requires { ⌜ Paged p ⌝ }
+    ensures { λ r. ⌜ r ≡ rootBad p (root .0) ⌝ }
 {
-    geometry::unaligned(vmsa::PAGE_BITS, root.0) | (vmsa::ADDRESS_LIMIT <= root.0)
+    geometry::unaligned(p, root.0) | (vmsa::ADDRESS_LIMIT <= root.0)
 }
 
 // 4: of the roots.
 pub fn roots_bad(r: Regime) -> bool
     ensures { λ b. ⌜ b ≡ rootsBad r ⌝ }
 {
-    root_bad(r.range0.root) | root_bad(r.range1.root)
+    let granule = r.granule;
+    let p = granule.page_bits();
+    root_bad(p, r.range0.root) | root_bad(p, r.range1.root)
 }
 
-fn attribute_bad(b: u8) -> bool
-    ensures { λ r. ⌜ r ≡ attributeBad b ⌝ }
-{
-    !(vmsa::device(b) | vmsa::normal(b))
-}
-
-// 5: of the attribute bytes.
+// 5: of the attribute bytes, all eight together. The lowest bit of a byte of each number below tells of that byte:
+// one of its bits 1 and 0 is set; its low half is nonzero; its high half is; it is no Device byte; it is a Normal byte.
 pub fn attributes_bad(attributes: u64) -> bool
     ensures { λ r. ⌜ r ≡ attributesBad attributes ⌝ }
 {
-    attribute_bad(vmsa::attribute(attributes, 0))
-        | attribute_bad(vmsa::attribute(attributes, 1))
-        | attribute_bad(vmsa::attribute(attributes, 2))
-        | attribute_bad(vmsa::attribute(attributes, 3))
-        | attribute_bad(vmsa::attribute(attributes, 4))
-        | attribute_bad(vmsa::attribute(attributes, 5))
-        | attribute_bad(vmsa::attribute(attributes, 6))
-        | attribute_bad(vmsa::attribute(attributes, 7))
+    let pair = attributes | (attributes >> 1);
+    let low = pair | (pair >> 2);
+    let high = low >> 4;
+    let no_device = pair | high;
+    let normal = low & high;
+    (no_device ^ (no_device & normal)) & LOWEST_BITS != 0
 }
 
 // 13: of the hardware's management of Access flag and dirty state.
@@ -102,13 +110,19 @@ pub fn access_size_bad(a: Access) -> bool
 {
     let kind = a.kind;
     let size = a.size;
-    if !((size == 1) | (size == 2) | (size == 4) | (size == 8) | (size == 16)) {
+    if 16 < size {
         return true;
+    }
+    if !descriptor::bit(SIZES, size as u8) {
+        return true;
+    }
+    if !(kind.is_fetch() | kind.is_probe()) {
+        return false;
     }
     if kind.is_fetch() {
         return !(size == 4) | !(a.address.0 % 4 == 0);
     }
-    kind.is_probe() & !(size == 1)
+    !(size == 1)
 }
 
 // One less, 0 for 0.
@@ -130,12 +144,14 @@ fn last_byte(a: Access) -> u64
 }
 
 // 7: of the pages of the first and the last byte.
-pub fn crosses(a: Access) -> bool
-    ensures { λ r. ⌜ r ≡ crossing a ⌝ }
+pub fn crosses(r: Regime, a: Access) -> bool
+    ensures { λ b. ⌜ b ≡ crossing r a ⌝ }
 {
+    let granule = r.granule;
+    let p = granule.page_bits();
     let last = VirtAddr(last_byte(a));
-    let first_page = geometry::page_of(vmsa::PAGE_BITS, a.address);
-    let last_page = geometry::page_of(vmsa::PAGE_BITS, last);
+    let first_page = geometry::page_of(p, a.address);
+    let last_page = geometry::page_of(p, last);
     first_page != last_page
 }
 

@@ -9,9 +9,10 @@ use lib.Pow.{field as field-mod}
 use Rattle.descriptor.specs.Bits.{pick, bit, field, clearBit}
 use Rattle.descriptor.proofs.Tests.{and-true, or-none, differ}
 use Rattle.descriptor.proofs.BitLaws.{clear-above, clear-bit, clear-other}
-use Rattle.vmsa.specs.Limits.{addressLimit, pageBits}
+use Rattle.vmsa.specs.Granules.{pageBitsOf}
+use Rattle.vmsa.specs.Limits.{addressLimit}
 use Rattle.geometry.specs.Geometry.{levelOf, shiftOf, span, cut}
-use Rattle.geometry.proofs.Geometry.{shift-least}
+use Rattle.geometry.proofs.Geometry.{shift-least, paged}
 use Rattle.vmsa.specs.Answers.{Result, success, fault, refused, cacheableIn, dirtiedIn}
 use Rattle.vmsa.specs.Kinds.{isProbe, writes}
 use Rattle.vmsa.specs.Fields.{attributeIndex, ap1, ap2, shareability, af, nonglobal, dbm, pxn, uxn, clearAp2, noWriteBelow}
@@ -132,9 +133,9 @@ module _ (v : ℕ) where
   address-cleared : clearAp2 v % addressLimit / 4096 ≡ v % addressLimit / 4096
   address-cleared = field-mod (clearAp2 v) 36 12 ∙ ap (λ (x : ℕ). x % 2 ^ 36) (clear-above 7 v 12 (lit< tt)) ∙ sym (field-mod v 36 12)
 
-cut-cleared : (v left : ℕ) → cut (clearAp2 v) (span pageBits left) ≡ cut v (span pageBits left)
+cut-cleared : (p v left : ℕ) → 12 ≤ p → cut (clearAp2 v) (span p left) ≡ cut v (span p left)
 unfolding span
-cut-cleared v left = cut-same (clearAp2 v) v (shiftOf pageBits left) (shift-least pageBits left (lit≤ tt)) (address-cleared v)
+cut-cleared p v left h = cut-same (clearAp2 v) v (shiftOf p left) (shift-least p left h) (address-cleared v)
 
 -- ---- the tests on such a leaf
 
@@ -207,7 +208,7 @@ module _ (r : Regime) (a : Access) (v left sum : ℕ) (e : ap2 v ≡ true) (g : 
   success-cleared : dirtyDue r a old ≡ false → successOf r a new ≡ successOf r a old
   unfolding passing outputOf cacheable new old
   success-cleared d =
-      rw (dirty-new, d, due-cleared, attribute-cleared, af-cleared v, nonglobal-cleared v, shareability-cleared v, cut-cleared v left)
+      rw (dirty-new, d, due-cleared, attribute-cleared, af-cleared v, nonglobal-cleared v, shareability-cleared v, cut-cleared (pageBitsOf r) v left (paged (r .granule) .least))
 
   judged-cleared : dirtiedIn (judged r old a) ≡ false → judged r new a ≡ judged r old a
   judged-cleared d =

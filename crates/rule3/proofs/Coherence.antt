@@ -24,8 +24,9 @@ use Rattle.checks.specs.declared.Checked.{Checked}
 use Rattle.checks.specs.declared.Checked.the-variants.{Accepted, Refused}
 use Rattle.walk.specs.Walk.{revalued}
 use Rattle.tlb.specs.Replies.{Reply, done, refused, answered, Told, told, uncounted, updates, dirties}
-use Rattle.tlb.specs.Walker.{Walker, Spot, lost, found, andThen, noRegime, Entry, empty, holds, entryCount, entryOf, heldIn, Walked, putWord, landed, walkFrom, walked, recall, accessHeld, accessBy}
-use Rattle.tlb.proofs.Walking.{both}
+use Rattle.checks.specs.Order.{andThen}
+use Rattle.tlb.specs.Walker.{Walker, Spot, lost, found, noRegime, Entry, empty, holds, entryCount, entryOf, heldIn, Walked, putWord, landed, walkFrom, walked, recall, accessHeld, accessBy}
+use Rattle.checks.proofs.Rows.{both}
 use Rattle.session.specs.Model.{noEntries, held, keep, Session, fresh, Stepped, stay, refusal as refusing, Call, setRegime, access, store, dropAll, setBy, setCall, dropCall, storeBy, storeIn, storeCall, learn, accessWith, accessCall, call}
 use Rattle.calls.specs.Chains.{Event, event}
 use Rattle.rule3.specs.Events.{World, start, after, next, run, lastRegime, empties, asksDrop, settled, Moment, counted, anyCount, momentIn, momentOf, orEarlier, latest}
@@ -226,11 +227,11 @@ module _ (W : Walker) (L : Lawful W) where
 
       module _ (R : Regime) (q : lastRegime past ≡ some R) where
         -- the plain walk, once the regime was accepted
-        plain-is : (m′ : List ℕ) (y : Checked) → andThen (memoryCheck R (length m′)) (accessCheck a) ≡ y
+        plain-is : (m′ : List ℕ) (y : Checked) → andThen (memoryCheck R (length m′)) (accessCheck R a) ≡ y
             → plainly W R m′ a ≡ unlessRefused y m′ (walked W R m′ a)
         plain-is m′ y e =
             L .plain-walk R m′ a
-            ∙ ap (λ (x : Checked). unlessRefused (andThen (memoryCheck R (length m′)) (andThen x (accessCheck a))) m′ (walked W R m′ a)) (I .valid R q)
+            ∙ ap (λ (x : Checked). unlessRefused (andThen (memoryCheck R (length m′)) (andThen x (accessCheck R a))) m′ (walked W R m′ a)) (I .valid R q)
             ∙ ap (λ (x : Checked). unlessRefused x m′ (walked W R m′ a)) e
 
         alike : (w : Told Reply) (r : Reply) (left : List ℕ) → plainly W R m a ≡ w → uncounted r ≡ uncounted (w .reply) → left ≡ w .memory
@@ -255,7 +256,7 @@ module _ (W : Walker) (L : Lawful W) where
 
         -- a leaf that was reached: what the marks do to the other entries
         module _ (at : ℕ) (u : Leaf) (n : ℕ) (e : locate R m (page R a) ≡ found at u n)
-            (y : andThen (memoryCheck R (length m)) (accessCheck a) ≡ Accepted) where
+            (y : andThen (memoryCheck R (length m)) (accessCheck R a) ≡ Accepted) where
           abbrev o : Result
           o = judge R u a
 
@@ -266,7 +267,7 @@ module _ (W : Walker) (L : Lawful W) where
           h′ = revalued u (stamp o (u .value))
 
           sound : Admitted W R m
-          sound = record { pool = both (memoryCheck R (length m)) (accessCheck a) y .0; regime = I .valid R q; bytes = I .bytes }
+          sound = record { pool = both (memoryCheck R (length m)) (accessCheck R a) y .0; regime = I .valid R q; bytes = I .bytes }
 
           room : at + 8 ≤ length m
           room = L .leaf-room R m sound (page R a) e
@@ -413,7 +414,7 @@ module _ (W : Walker) (L : Lawful W) where
               go false hb = passed hb hk
 
         -- an access that walks
-        walks : andThen (memoryCheck R (length m)) (accessCheck a) ≡ Accepted → Then m past (access a) (learn W s (page R a) (walked W R m a))
+        walks : andThen (memoryCheck R (length m)) (accessCheck R a) ≡ Accepted → Then m past (access a) (learn W s (page R a) (walked W R m a))
         walks y = go (locate R m (page R a)) refl
           where
             go : (l : Spot) → locate R m (page R a) ≡ l → Then m past (access a) (learn W s (page R a) (walkFrom W R m a l))
@@ -443,7 +444,7 @@ module _ (W : Walker) (L : Lawful W) where
             subst₃ (λ (X : Regime) (n : ℕ) (l : Leaf). Freshly X m n l) rr pp hh f
 
         -- an access that is answered from its entry
-        hit : andThen (memoryCheck R (length m)) (accessCheck a) ≡ Accepted → (h : Leaf) → held (s .entries) (page R a) ≡ some h
+        hit : andThen (memoryCheck R (length m)) (accessCheck R a) ≡ Accepted → (h : Leaf) → held (s .entries) (page R a) ≡ some h
             → dirtiedIn (judge R h a) ≡ false → Then m past (access a) (record { session = s; memory = m; reply = answered (judge R h a) 0 })
         hit y h hh hd =
             carry (seen x 0 m) I refl (unnamed counted x 0 m (and-no (cacheableIn x))) (λ i lt. ends i lt (cacheableIn x) refl) refl (I .bytes) (I .fresh-in) (tt, good)
@@ -496,7 +497,7 @@ module _ (W : Walker) (L : Lawful W) where
                 (λ st. same (fresh-held (getD (s .entries) (entryOf (page R a)) empty) (latest W counted past (entryOf (page R a))) (page R a) h
                 (I .matches (entryOf (page R a)) (entry-lt (page R a))) (I .fresh-in st (entryOf (page R a)) (entry-lt (page R a))) is))
 
-        unrefused : andThen (memoryCheck R (length m)) (accessCheck a) ≡ Accepted → Then m past (access a) (learn W s (page R a) (accessHeld W R m a (held (s .entries) (page R a))))
+        unrefused : andThen (memoryCheck R (length m)) (accessCheck R a) ≡ Accepted → Then m past (access a) (learn W s (page R a) (accessHeld W R m a (held (s .entries) (page R a))))
         unrefused y = go (held (s .entries) (page R a)) refl
           where
             go₂ : (h : Leaf) → held (s .entries) (page R a) ≡ some h → (b : Bool) → dirtiedIn (judge R h a) ≡ b
@@ -508,7 +509,7 @@ module _ (W : Walker) (L : Lawful W) where
             go none hh = walks y
             go (some h) hh = go₂ h hh (dirtiedIn (judge R h a)) refl
 
-        ruled : (y : Checked) → andThen (memoryCheck R (length m)) (accessCheck a) ≡ y → Then m past (access a) (learn W s (page R a) (accessBy W R m a (held (s .entries) (page R a)) y))
+        ruled : (y : Checked) → andThen (memoryCheck R (length m)) (accessCheck R a) ≡ y → Then m past (access a) (learn W s (page R a) (accessBy W R m a (held (s .entries) (page R a)) y))
         ruled Accepted y = unrefused y
         ruled (Refused k) y = refusal (numberOf k) (alike (unlessRefused (Refused k) m (walked W R m a)) (refused (numberOf k)) m (plain-is m (Refused k) y) refl refl)
 
@@ -517,7 +518,7 @@ module _ (W : Walker) (L : Lawful W) where
       where
         go : (x : Option Regime) → s .regime ≡ x → Then m past (access a) (accessWith W s m a x)
         go none z = refusal a noRegime (subst⁻¹ (λ (o : Option Regime). AccessIn W o (settled past) a (refused noRegime) m m) (sym (I .known) ∙ z) refl)
-        go (some R) z = ruled a R (sym (I .known) ∙ z) (andThen (memoryCheck R (length m)) (accessCheck a)) refl
+        go (some R) z = ruled a R (sym (I .known) ∙ z) (andThen (memoryCheck R (length m)) (accessCheck R a)) refl
 
     pub step : (c : Call) → Then m past c (call W s m c)
     step (setRegime R) = step-set R
@@ -531,7 +532,7 @@ module _ (W : Walker) (L : Lawful W) where
       abbrev p : ℕ
       p = page R a
 
-      plain-told : (y : Checked) → andThen (memoryCheck R (length m₁)) (accessCheck a) ≡ y
+      plain-told : (y : Checked) → andThen (memoryCheck R (length m₁)) (accessCheck R a) ≡ y
           → Plainly W R m₁ a (unlessRefused y m₁ (walked W R m₁ a) .reply) (unlessRefused y m₁ (walked W R m₁ a) .memory)
       plain-told y e =
           record { same = sym (ap (λ (w : Told Reply). w .reply) (plain-is a R q m₁ y e)); bytes = sym (ap (λ (w : Told Reply). w .memory) (plain-is a R q m₁ y e)) }
@@ -547,7 +548,7 @@ module _ (W : Walker) (L : Lawful W) where
 
       module _ (p′ : ℕ) (h : Leaf) (t : Moment) (M : Recorded (length m) (lastRegime past) p′ h t) where
         -- what the plain walk gave the access over the memory of then
-        then-is : t .page ≡ p → (y : Checked) → andThen (memoryCheck R (length m₁)) (accessCheck a) ≡ y
+        then-is : t .page ≡ p → (y : Checked) → andThen (memoryCheck R (length m₁)) (accessCheck R a) ≡ y
             → plainly W (t .regime) (t .left) a ≡ unlessRefused y (t .left) (landed W R (t .left) (M .at) h (M .count) (judge R h a))
         then-is hp y e =
             let rr : t .regime ≡ R = Option·some-injective (t .regime) R (sym (M .regime-eq) ∙ q) in
@@ -555,10 +556,10 @@ module _ (W : Walker) (L : Lawful W) where
             subst₂ (λ (S : Regime) (x : ℕ). locate S (t .left) x ≡ found (M .at) h (M .count)) rr (sym (M .page-eq) ∙ hp) (M .here)
             in
             ap (λ (S : Regime). plainly W S (t .left) a) rr
-            ∙ plain-is a R q (t .left) y (ap (λ (n : ℕ). andThen (memoryCheck R n) (accessCheck a)) (M .size ∙ sym size) ∙ e)
+            ∙ plain-is a R q (t .left) y (ap (λ (n : ℕ). andThen (memoryCheck R n) (accessCheck R a)) (M .size ∙ sym size) ∙ e)
             ∙ ap (λ (l : Spot). unlessRefused y (t .left) (walkFrom W R (t .left) a l)) le
 
-        spoken-refused : (x : Refusal) → andThen (memoryCheck R (length m₁)) (accessCheck a) ≡ Refused x → Spoken t (refused (numberOf x)) m₁
+        spoken-refused : (x : Refusal) → andThen (memoryCheck R (length m₁)) (accessCheck R a) ≡ Refused x → Spoken t (refused (numberOf x)) m₁
         spoken-refused x e =
             record {
               own = λ hp. record {
@@ -570,10 +571,10 @@ module _ (W : Walker) (L : Lawful W) where
             }
 
         -- another page's entry
-        spoken-other : p′ ≢ p → andThen (memoryCheck R (length m₁)) (accessCheck a) ≡ Accepted → Spoken t (walked W R m₁ a .reply) (walked W R m₁ a .memory)
+        spoken-other : p′ ≢ p → andThen (memoryCheck R (length m₁)) (accessCheck R a) ≡ Accepted → Spoken t (walked W R m₁ a .reply) (walked W R m₁ a .memory)
         spoken-other ne e = record { own = λ hp. absurd (ne (sym (M .page-eq) ∙ hp)); other = λ hp. plain-told Accepted e }
 
-        spoken-own : p′ ≡ p → andThen (memoryCheck R (length m₁)) (accessCheck a) ≡ Accepted → (b : Bool) → dirtiedIn (judge R h a) ≡ b
+        spoken-own : p′ ≡ p → andThen (memoryCheck R (length m₁)) (accessCheck R a) ≡ Accepted → (b : Bool) → dirtiedIn (judge R h a) ≡ b
             → (r : Walked) → r ≡ pick b (walked W R m₁ a) (record { reply = answered (judge R h a) 0; memory = m₁; kept = none })
             → Spoken t (r .reply) (r .memory)
         spoken-own hp′ e true hd r hr =
@@ -594,12 +595,12 @@ module _ (W : Walker) (L : Lawful W) where
               other = λ hp. absurd (hp (M .page-eq ∙ hp′));
             }
 
-        spoken-held : andThen (memoryCheck R (length m₁)) (accessCheck a) ≡ Accepted → (b : Bool) → eqb p′ p ≡ b
+        spoken-held : andThen (memoryCheck R (length m₁)) (accessCheck R a) ≡ Accepted → (b : Bool) → eqb p′ p ≡ b
             → Spoken t (accessHeld W R m₁ a (pick b (some h) none) .reply) (accessHeld W R m₁ a (pick b (some h) none) .memory)
         spoken-held e true k = spoken-own (eqb-true p′ p k) e (dirtiedIn (judge R h a)) refl (recall W R m₁ a (judge R h a)) refl
         spoken-held e false k = spoken-other (eqb-false p′ p k) e
 
-      spoken-by : (pl : Entry) (t : Option Moment) → Matches (length m) (lastRegime past) pl t → andThen (memoryCheck R (length m₁)) (accessCheck a) ≡ Accepted
+      spoken-by : (pl : Entry) (t : Option Moment) → Matches (length m) (lastRegime past) pl t → andThen (memoryCheck R (length m₁)) (accessCheck R a) ≡ Accepted
           → SpokenIn t (accessHeld W R m₁ a (heldIn pl p) .reply) (accessHeld W R m₁ a (heldIn pl p) .memory)
       spoken-by empty none M e = plain-told Accepted e
       spoken-by empty (some t) M e = absurd M
@@ -607,7 +608,7 @@ module _ (W : Walker) (L : Lawful W) where
       spoken-by (holds p′ h) (some t) M e = spoken-held p′ h t M e (eqb p′ p) refl
 
       refused-by : (pl : Entry) (t : Option Moment) → Matches (length m) (lastRegime past) pl t → (x : Refusal)
-          → andThen (memoryCheck R (length m₁)) (accessCheck a) ≡ Refused x → SpokenIn t (refused (numberOf x)) m₁
+          → andThen (memoryCheck R (length m₁)) (accessCheck R a) ≡ Refused x → SpokenIn t (refused (numberOf x)) m₁
       refused-by empty none M x e = plain-told (Refused x) e
       refused-by empty (some t) M x e = absurd M
       refused-by (holds p′ h) none M x e = absurd M
@@ -616,12 +617,12 @@ module _ (W : Walker) (L : Lawful W) where
       spoken : SpokenIn (latest W counted past (entryOf p)) (accessCall W s m₁ a .reply) (accessCall W s m₁ a .memory)
       spoken =
           subst⁻¹ (λ (x : Option Regime). SpokenIn (latest W counted past (entryOf p)) (accessWith W s m₁ a x .reply) (accessWith W s m₁ a x .memory))
-          (I .known ∙ q) (go (andThen (memoryCheck R (length m₁)) (accessCheck a)) refl)
+          (I .known ∙ q) (go (andThen (memoryCheck R (length m₁)) (accessCheck R a)) refl)
         where
           M : Matches (length m) (lastRegime past) (getD (s .entries) (entryOf p) empty) (latest W counted past (entryOf p))
           M = I .matches (entryOf p) (entry-lt p)
 
-          go : (y : Checked) → andThen (memoryCheck R (length m₁)) (accessCheck a) ≡ y
+          go : (y : Checked) → andThen (memoryCheck R (length m₁)) (accessCheck R a) ≡ y
               → SpokenIn (latest W counted past (entryOf p)) (accessBy W R m₁ a (held (s .entries) p) y .reply) (accessBy W R m₁ a (held (s .entries) p) y .memory)
           go Accepted e = spoken-by (getD (s .entries) (entryOf p) empty) (latest W counted past (entryOf p)) M e
           go (Refused x) e = refused-by (getD (s .entries) (entryOf p) empty) (latest W counted past (entryOf p)) M x e
@@ -689,7 +690,7 @@ module _ (W : Walker) (L : Lawful W) where
   holds-on (c ∷ cs) w I = holds-on cs (next W w c) (step (w .session) (w .memory) (w .past) I c)
 
   silent : (R : Regime) (m : List ℕ) (a : Access) → writes (a .kind) ≡ false → dirties (plainly W R m a .reply) ≡ false
-  silent R m a h = ap (λ (w : Told Reply). dirties (w .reply)) (L .plain-walk R m a) ∙ go (andThen (memoryCheck R (length m)) (andThen (settingCheck R) (accessCheck a)))
+  silent R m a h = ap (λ (w : Told Reply). dirties (w .reply)) (L .plain-walk R m a) ∙ go (andThen (memoryCheck R (length m)) (andThen (settingCheck R) (accessCheck R a)))
     where
       go₂ : (l : Spot) → dirties (walkFrom W R m a l .reply) ≡ false
       go₂ (lost c l n) = refl

@@ -14,13 +14,14 @@ use Rattle.vmsa.specs.declared.Regime.{Regime}
 use Rattle.vmsa.specs.declared.Access.{Access}
 use Rattle.checks.specs.declared.Checked.{Checked}
 use Rattle.checks.specs.declared.Checked.the-variants.{Accepted, Refused}
-use Rattle.checks.specs.Order.{firstOf, memoryRows, settingRows, regimeRows, accessRows, storeRows, walkCheck, sessionStoreCheck}
+use Rattle.checks.specs.Order.{firstOf, memoryRows, settingRows, regimeRows, accessRows, storeRows, walkCheck, sessionStoreCheck, andThen}
 use Rattle.walk.specs.Walk.{Outcome, walkPool, checked, walk}
 use Rattle.walk.proofs.Ends.{ready}
 use Rattle.tlb.specs.Replies.{Reply, Told, told, replyOf}
-use Rattle.tlb.specs.Walker.{andThen, Walked, walked}
+use Rattle.tlb.specs.Walker.{Walked, walked}
 use Rattle.tlb.specs.Ours.{offsetOf, ours}
-use Rattle.tlb.proofs.Walking.{first-append, both, walked-pool}
+use Rattle.checks.proofs.Rows.{first-append, both}
+use Rattle.tlb.proofs.Walking.{walked-pool}
 use Rattle.session.specs.declared.Session.{Session as SessionStruct}
 use Rattle.session.specs.Model.{Session, Handed, Stepped, fresh, Call, setRegime, access, store, dropAll, call}
 use Rattle.session.specs.View.{sessionView, viewed}
@@ -44,36 +45,36 @@ then-assoc Accepted y z = refl
 then-assoc (Refused k) y z = refl
 
 checks-of : (r : Regime) (n : ℕ) (a : Access)
-    → walkCheck n r a ≡ andThen (firstOf (memoryRows n (r .pool))) (andThen (firstOf (settingRows r)) (firstOf (accessRows a)))
+    → walkCheck n r a ≡ andThen (firstOf (memoryRows n r)) (andThen (firstOf (settingRows r)) (firstOf (accessRows r a)))
 unfolding walkCheck
 checks-of r n a =
-    first-append (regimeRows n r) (accessRows a) ∙ ap (λ (x : Checked). andThen x (firstOf (accessRows a))) (first-append (memoryRows n (r .pool)) (settingRows r))
-    ∙ then-assoc (firstOf (memoryRows n (r .pool))) (firstOf (settingRows r)) (firstOf (accessRows a))
+    first-append (regimeRows n r) (accessRows r a) ∙ ap (λ (x : Checked). andThen x (firstOf (accessRows r a))) (first-append (memoryRows n r) (settingRows r))
+    ∙ then-assoc (firstOf (memoryRows n r)) (firstOf (settingRows r)) (firstOf (accessRows r a))
 
 plain-by : (r : Regime) (m : List ℕ) (a : Access) (c : Checked) → walkCheck (length m) r a ≡ c
     → _≡_ {A = Told Reply} (record { reply = replyOf (checked (walkPool r a) (r .pool) m c .result); memory = checked (walkPool r a) (r .pool) m c .bytes }) (unlessRefused c m (walked ours r m a))
 plain-by r m a (Refused x) e = refl
 plain-by r m a Accepted e =
     let h = ready (length m) r a e in
-    let u = accepted-usable r (both (firstOf (settingRows r)) (firstOf (accessRows a)) (both (firstOf (memoryRows (length m) (r .pool))) (andThen (firstOf (settingRows r)) (firstOf (accessRows a))) (sym (checks-of r (length m) a) ∙ e) .1) .0) in
+    let u = accepted-usable r (both (firstOf (settingRows r)) (firstOf (accessRows r a)) (both (firstOf (memoryRows (length m) r)) (andThen (firstOf (settingRows r)) (firstOf (accessRows r a))) (sym (checks-of r (length m) a) ∙ e) .1) .0) in
     sym (ap (λ (w : Walked). told (w .reply) (w .memory)) (walked-pool r m a (h .sized) (h .root) (h .fits) u))
 
 plain-walk : (r : Regime) (m : List ℕ) (a : Access)
-    → plainly ours r m a ≡ unlessRefused (andThen (firstOf (memoryRows (length m) (r .pool))) (andThen (firstOf (settingRows r)) (firstOf (accessRows a)))) m (walked ours r m a)
+    → plainly ours r m a ≡ unlessRefused (andThen (firstOf (memoryRows (length m) r)) (andThen (firstOf (settingRows r)) (firstOf (accessRows r a)))) m (walked ours r m a)
 unfolding walk
 plain-walk r m a =
     plain-by r m a (walkCheck (length m) r a) refl ∙ ap (λ (c : Checked). unlessRefused c m (walked ours r m a)) (checks-of r (length m) a)
 
 -- ---- an accepted store lies in the memory
 
-store-check : (r : Regime) (n address : ℕ) → firstOf (memoryRows n (r .pool)) ≡ Accepted → firstOf (storeRows (r .pool) address) ≡ Accepted
-    → sessionStoreCheck n (r .pool) address ≡ Accepted
+store-check : (r : Regime) (n address : ℕ) → firstOf (memoryRows n r) ≡ Accepted → firstOf (storeRows (r .pool) address) ≡ Accepted
+    → sessionStoreCheck n r address ≡ Accepted
 unfolding sessionStoreCheck
-store-check r n address e f = first-append (memoryRows n (r .pool)) (storeRows (r .pool) address) ∙ ap₂ andThen e f
+store-check r n address e f = first-append (memoryRows n r) (storeRows (r .pool) address) ∙ ap₂ andThen e f
 
-room : (r : Regime) (n address : ℕ) → firstOf (memoryRows n (r .pool)) ≡ Accepted → firstOf (storeRows (r .pool) address) ≡ Accepted → offsetOf r address + 8 ≤ n
+room : (r : Regime) (n address : ℕ) → firstOf (memoryRows n r) ≡ Accepted → firstOf (storeRows (r .pool) address) ≡ Accepted → offsetOf r address + 8 ≤ n
 room r n address e f =
-    let h = store-accepted n (r .pool) address (store-check r n address e f) in
+    let h = store-accepted n r address (store-check r n address e f) in
     omega (arith, h .fits, h .least, h .most)
 
 -- ---- our walk keeps the laws

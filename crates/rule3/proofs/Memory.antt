@@ -14,9 +14,9 @@ use Rattle.descriptor.proofs.Tests.{clash, and-true, or-false, differ}
 use Rattle.descriptor.proofs.Laws.{length-put, desc-put-aligned}
 use Rattle.descriptor.proofs.Numbers.{desc-small, bytes-take, bytes-drop}
 use Rattle.descriptor.proofs.BitLaws.{set-above, clear-above, set-other, clear-other}
-use Rattle.vmsa.specs.Limits.{addressLimit, pageBits, Sized}
+use Rattle.vmsa.specs.Granules.{pageBitsOf}
+use Rattle.vmsa.specs.Limits.{addressLimit, Sized}
 use Rattle.geometry.specs.Geometry.{pageSize}
-use Rattle.geometry.proofs.Geometry.{paged}
 use Rattle.vmsa.specs.Answers.{Result, codeOf, dirtiedIn}
 use Rattle.vmsa.specs.declared.Regime.{Regime}
 use Rattle.vmsa.specs.declared.Access.{Access}
@@ -30,14 +30,14 @@ use Rattle.lookup.specs.declared.Word.{Word}
 use Rattle.lookup.specs.declared.Word.the-variants.{Value, Unreachable}
 use Rattle.lookup.specs.Trace.{End, fault, leaf, Trace}
 use Rattle.lookup.specs.Steps.{decoded, fetched, poolReader, contextOf, rangeOf, locate}
-use Rattle.lookup.proofs.Decoding.{Alike, decoded-same, aligned8}
+use Rattle.lookup.proofs.Decoding.{Alike, decoded-same}
 use Rattle.lookup.proofs.Reach.{context-paged, locate-read}
 use Rattle.lookup.proofs.Readers.{AlikeWords, unreachable, values, AlikeEnds, faults, leaves, AlikeTraces, locate-alike}
 use Rattle.vmsa.proofs.Tables.{set-bits, clear-bits}
 use Rattle.decision.specs.Decision.{updated}
 use Rattle.walk.specs.Walk.{poolBytes, traced}
 use Rattle.walk.proofs.Parts.{part-put, length-part}
-use Rattle.walk.proofs.Ends.{Found, found, aligned-zero}
+use Rattle.walk.proofs.Ends.{Found, found, multiple8}
 use Rattle.rules.proofs.Updates.{updated-small}
 use Rattle.tlb.specs.Walker.{Spot, lost, found as foundAt, putWord}
 use Rattle.tlb.specs.Ours.{usable, offsetOf, spotAt, spotOf, located, accessedIn, stamped, ours}
@@ -51,7 +51,7 @@ pub reads : (r : Regime) (m : List ℕ) (p : ℕ) {at : ℕ} {u : Leaf} {n : ℕ
 unfolding traced
 reads r m p q =
     let w = where-found r m p q in
-    rw (w .count) at (locate-read r (poolReader r (poolBytes (r .pool) m)) (p * pageSize pageBits) (w .end))
+    rw (w .count) at (locate-read r (poolReader r (poolBytes (r .pool) m)) (p * pageSize (pageBitsOf r)) (w .end))
 
 pub one : (r : Regime) (m : List ℕ) (p q : ℕ) {at : ℕ} {u v : Leaf} {n k : ℕ} → located r m p ≡ foundAt at u n → located r m q ≡ foundAt at v k → u .value ≡ v .value
 one r m p q e f =
@@ -64,14 +64,14 @@ one r m p q e f =
 
 -- ---- what acceptance gives
 
-pub accepted-pool : (r : Regime) (n : ℕ) → firstOf (memoryRows n (r .pool)) ≡ Accepted → Pooled n (r .pool)
-accepted-pool r n e = pooled n (r .pool) (clear (memoryRows n (r .pool)) e .0)
+pub accepted-pool : (r : Regime) (n : ℕ) → firstOf (memoryRows n r) ≡ Accepted → Pooled n r
+accepted-pool r n e = pooled n r (clear (memoryRows n r) e .0)
 
 pub accepted-usable : (r : Regime) → firstOf (settingRows r) ≡ Accepted → usable r ≡ true
 accepted-usable r e = let c = clear (settingRows r) e in rw (c .1 .0, c .1 .1 .0)
 
-pub accepted-address : (r : Regime) → firstOf (settingRows r) ≡ Accepted → Addressed (r .pool)
-accepted-address r e = addressed (r .pool) (clear (settingRows r) e .0)
+pub accepted-address : (r : Regime) → firstOf (settingRows r) ≡ Accepted → Addressed r
+accepted-address r e = addressed r (clear (settingRows r) e .0)
 
 pub leaf-room : (r : Regime) (m : List ℕ) → Admitted ours r m → (p : ℕ) {at : ℕ} {u : Leaf} {n : ℕ} → located r m p ≡ foundAt at u n → at + 8 ≤ length m
 leaf-room r m s p q =
@@ -198,7 +198,7 @@ marked-where r m s q f d {u = u} y p =
     let i = y .address - r .pool .address .0 in
     let fits = accepted-pool r (length m) (s .pool) .fits in
     let l : length pool ≡ r .pool .length = length-part m (r .pool .start) (r .pool .length) fits in
-    let b8 : r .pool .address .0 % 8 ≡ 0 = aligned8 pageBits (r .pool .address .0) paged (aligned-zero (r .pool .address .0) (accepted-address r (s .regime) .aligned)) in
+    let b8 : r .pool .address .0 % 8 ≡ 0 = multiple8 r (r .pool .address .0) (accepted-address r (s .regime) .aligned) in
     let i8 : i % 8 ≡ 0 = omega (arith, g .reached .aligned, g .inside .least) in
     let room : i + 8 ≤ length pool = omega (arith, g .inside .least, g .inside .most) in
     let value : desc (r .ee) pool i ≡ u .value = g .inside .same in
@@ -207,7 +207,7 @@ marked-where r m s q f d {u = u} y p =
     let unseen : Alike (desc (r .ee) pool i) v = rw value (alike-updated f d (u .value)) in
     let mem : poolBytes (r .pool) (putWord ours r m (offsetOf r (y .address)) v) ≡ put (r .ee) pool i v =
     ap (poolBytes (r .pool)) (put-is r m (offsetOf r (y .address)) v) ∙ part-put (r .ee) m (r .pool .start) (r .pool .length) i v fits (rw (← l) room) in
-    rw (y .regime, mem) (spot-after r pool i v b8 i8 room small unseen (y .regime) (p * pageSize pageBits))
+    rw (y .regime, mem) (spot-after r pool i v b8 i8 room small unseen (y .regime) (p * pageSize (pageBitsOf r)))
 
 marked-by : (r : Regime) (m : List ℕ) → Admitted ours r m → (q : ℕ) (f d : Bool) {at : ℕ} {u : Leaf} {n : ℕ} → located r m q ≡ foundAt at u n → (p : ℕ)
     → located r (putWord ours r m at (updated f d (u .value))) p ≡ restamped at (updated f d (u .value)) (located r m p)

@@ -15,7 +15,8 @@ use Rattle.vmsa.specs.declared.Leaf.{Leaf}
 use Rattle.checks.specs.declared.Checked.{Checked}
 use Rattle.checks.specs.declared.Checked.the-variants.{Accepted, Refused}
 use Rattle.tlb.specs.Replies.{Reply, refused, Told, told, updates}
-use Rattle.tlb.specs.Walker.{Walker, Spot, lost, found, Walked, andThen, putWord, walked}
+use Rattle.checks.specs.Order.{andThen}
+use Rattle.tlb.specs.Walker.{Walker, Spot, lost, found, Walked, putWord, walked}
 use Rattle.walk.specs.Walk.{revalued}
 use Rattle.rule3.specs.Rule3.{plainly}
 
@@ -41,7 +42,7 @@ module _ (W : Walker) where
   pub record Lawful : Type 1 where
     -- the plain walk is its checks, and then the walk
     pub plain-walk : (R : Regime) (m : List ℕ) (a : Access)
-        → plainly W R m a ≡ unlessRefused (andThen (memoryCheck R (length m)) (andThen (settingCheck R) (accessCheck a))) m (walked W R m a)
+        → plainly W R m a ≡ unlessRefused (andThen (memoryCheck R (length m)) (andThen (settingCheck R) (accessCheck R a))) m (walked W R m a)
     -- an accepted store's 8 bytes are in the memory, and so are those of a leaf that is found
     pub room : (R : Regime) (n address : ℕ) → memoryCheck R n ≡ Accepted → storeCheck R address ≡ Accepted → offset R address + 8 ≤ n
     pub leaf-room : (R : Regime) (m : List ℕ) → Admitted R m → (p : ℕ) {at : ℕ} {u : Leaf} {n : ℕ} → locate R m p ≡ found at u n → at + 8 ≤ length m

@@ -12,13 +12,12 @@ use Rattle.descriptor.specs.Bytes.{valueOf, bytesOf, desc, put}
 use Rattle.descriptor.specs.Bits.{pick}
 use Rattle.descriptor.proofs.Laws.{length-bytes, value-other, bytes-other, put-right}
 use Rattle.descriptor.proofs.Tests.{and-true}
-use Rattle.vmsa.specs.Limits.{pageBits, Sized}
+use Rattle.vmsa.specs.Limits.{Sized}
 use Rattle.vmsa.specs.Fields.{tableBits}
-use Rattle.geometry.proofs.Geometry.{paged}
 use Rattle.vmsa.specs.declared.Regime.{Regime}
 use Rattle.vmsa.specs.declared.Access.{Access}
 use Rattle.vmsa.specs.declared.Leaf.{Leaf}
-use Rattle.refusals.specs.Tests.{sizesBad, rootsBad, dirtyStateBad}
+use Rattle.refusals.specs.Tests.{sizesBad, rootsBad, dirtyStateBad, memoryPoolBad, poolAddressBad, crossing}
 use Rattle.checks.specs.declared.Checked.{Checked}
 use Rattle.checks.specs.declared.Checked.the-variants.{Accepted, Refused}
 use Rattle.checks.specs.Order.{walkCheck}
@@ -27,13 +26,12 @@ use Rattle.lookup.specs.declared.Word.{Word}
 use Rattle.lookup.specs.declared.Word.the-variants.{Value, Unreachable}
 use Rattle.lookup.specs.Trace.{End, fault, leaf, Trace}
 use Rattle.lookup.specs.Steps.{decoded, fetched, poolReader, rangeOf, contextOf, lookup, locate}
-use Rattle.lookup.proofs.Decoding.{aligned8}
 use Rattle.lookup.proofs.Readers.{AlikeWords, unreachable, values, AlikeEnds, faults, leaves, AlikeTraces, locate-alike}
 use Rattle.permission.specs.Permission.{attributeOf, writable, clean, mayWrite, mayFetch, permitted, flagFails, alignmentFails, permissionFails}
-use Rattle.decision.specs.Decision.{flagDue, dirtyDue, cacheable, passing, decision}
+use Rattle.decision.specs.Decision.{flagDue, dirtyDue, cacheable, passing, decision, outputOf}
 use Rattle.walk.specs.Walk.{Outcome, poolBytes, concluded, traced, walkPool, checked, walk}
 use Rattle.walk.proofs.Parts.{part-with, with-with, with-own}
-use Rattle.walk.proofs.Ends.{found, aligned-zero, ready}
+use Rattle.walk.proofs.Ends.{found, multiple8, ready}
 use Rattle.rules.specs.Orders.{otherOrder, swapped, swappedPool, swappedOutcome}
 use Rattle.rules.proofs.Walks.{pool-long, pool-length}
 
@@ -147,11 +145,11 @@ locate-other r read a = refl
 
 -- steps 6 to 8 do not ask it, nor do the checks
 decision-other : (r : Regime) (a : Access) (l : Leaf) (n : ℕ) → decision (otherOrder r) a l n ≡ decision r a l n
-unfolding decision passing flagDue dirtyDue cacheable flagFails alignmentFails permissionFails attributeOf writable clean mayWrite mayFetch permitted
+unfolding decision passing flagDue dirtyDue cacheable flagFails alignmentFails permissionFails attributeOf writable clean mayWrite mayFetch permitted outputOf
 decision-other r a l n = refl
 
 check-other : (n : ℕ) (r : Regime) (a : Access) → walkCheck n (otherOrder r) a ≡ walkCheck n r a
-unfolding walkCheck sizesBad rootsBad dirtyStateBad
+unfolding walkCheck memoryPoolBad poolAddressBad sizesBad rootsBad dirtyStateBad crossing
 check-other n r a = refl
 
 -- ---- the walk over the pool
@@ -212,8 +210,8 @@ module _ (r : Regime) (a : Access) (m : List ℕ) where
         let g = walk-accepted (length m) r a c .0 in
         let h = ready (length m) r a c in
         let fits : start + r .pool .length ≤ length m = h .fits in
-        let l8 = aligned8 pageBits (r .pool .length) paged (aligned-zero (r .pool .length) (g .pool .length)) in
-        let b8 = aligned8 pageBits (r .pool .address .0) paged (aligned-zero (r .pool .address .0) (g .address .aligned)) in
+        let l8 = multiple8 r (r .pool .length) (g .pool .length) in
+        let b8 = multiple8 r (r .pool .address .0) (g .address .aligned) in
         let long : length pool ≡ r .pool .length = pool-long r a m c in
         let n8 : length pool ≡ 8 * count = omega arith in
         let w = walkPool r a pool in

@@ -12,8 +12,8 @@ use Rattle.descriptor.specs.Bytes.{Bytes, desc, put}
 use Rattle.descriptor.specs.Bits.{pick, bit}
 use Rattle.descriptor.proofs.Tests.{differ, pick-both}
 use Rattle.descriptor.proofs.Laws.{desc-put}
-use Rattle.vmsa.specs.Limits.{pageBits}
 use Rattle.geometry.specs.Geometry.{levelOf, outputBits, outputLimit}
+use Rattle.vmsa.specs.Granules.{pageBitsOf}
 use Rattle.vmsa.specs.Kinds.{asksWrite, writes}
 use Rattle.vmsa.specs.Fields.{af, ap2, noWriteBelow, noUserBelow, uxnBelow, pxnBelow}
 use Rattle.vmsa.proofs.Tables.{with-write, with-user, with-uxn, with-pxn}
@@ -38,7 +38,7 @@ use Rattle.rules.specs.Tables.{traceOf, InSum}
 use Rattle.rules.specs.Rule2.{stepsOf, LeafOf, offset, valueAfter, leafAfter, SumOf, Placed, Right, FlagUpdate, DirtyUpdate, Marked, Rule2}
 use Rattle.walk.proofs.Parts.{getD-put}
 use Rattle.descriptor.proofs.Numbers.{desc-small}
-use Rattle.geometry.proofs.Geometry.{least-output}
+use Rattle.geometry.proofs.Geometry.{least-output, paged}
 use Rattle.rules.proofs.StepLaws.{Fault, firstFault, passes-none, fails-some, none-passes, some-fails}
 use Rattle.rules.proofs.Outcomes.{endCacheable}
 use Rattle.rules.proofs.Updates.{updated-none, updated-other, updated-af, updated-ap2, updated-small, writes-asks, flag-due, dirty-due, probe-due, leaf-clear, flag-after, write-writable, dirty-after, none-dirty, none-asks, still-writable, leaf-kind}
@@ -148,8 +148,8 @@ module _ (r : Regime) (a : Access) (m : List ℕ) where
       unfolding outputLimit contextOf
       output-small =
           let f = leaf-found r a m (success-taken r a m s e) l in
-          rw (is-right .output) (output-below pageBits (outputBits (r .output)) (l .left) (l .value) (a .address .0) (lit≤ tt) (least-output (r .output))
-          (is-leaf pageBits (2 ^ outputBits (r .output)) (l .left) (l .value) (f .reached .leads)))
+          rw (is-right .output) (output-below (pageBitsOf r) (outputBits (r .output)) (l .left) (l .value) (a .address .0) (paged (r .granule) .most) (least-output (r .output))
+          (is-leaf (pageBitsOf r) (2 ^ outputBits (r .output)) (l .left) (l .value) (f .reached .leads)))
 
       fits : offset l + 8 ≤ length m
       fits =

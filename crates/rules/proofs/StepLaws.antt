@@ -8,7 +8,7 @@ use native.Mathlib.Omega.{arith}
 use lib.Dec.{leb, eqb}
 use Rattle.descriptor.specs.Bits.{pick, bit}
 use Rattle.descriptor.proofs.Tests.{differ, and-true}
-use Rattle.vmsa.specs.Limits.{pageBits}
+use Rattle.vmsa.specs.Granules.{pageBitsOf}
 use Rattle.vmsa.specs.Fields.{noTables, withTable}
 use Rattle.geometry.specs.Geometry.{levelOf, firstLeft, outputLimit}
 use Rattle.vmsa.specs.declared.Regime.{Regime}
@@ -131,7 +131,7 @@ module _ (r : Regime) (a : Access) where
       let range = rangeOf r (a .address .0) in
       let c = contextOf r (a .address .0) in
       let read = poolReader r pool in
-      let n = firstLeft pageBits (range .tsz) in
+      let n = firstLeft (pageBitsOf r) (range .tsz) in
       let root = range .root .0 in
       range-steps (range .disabled || outside (range .tsz) (a .address .0)) (leb (outputLimit (r .output)) root) (levelSteps r a c read (suc n) noTables root)
       (descend c read (suc n) noTables root) (level-steps c read n noTables root)

@@ -12,9 +12,7 @@ use Rattle.descriptor.specs.Bytes.{Bytes, put}
 use Rattle.descriptor.specs.Bits.{pick}
 use Rattle.descriptor.proofs.Tests.{clash, pick-both}
 use Rattle.descriptor.proofs.Laws.{length-put}
-use Rattle.vmsa.specs.Limits.{pageBits}
 use Rattle.geometry.specs.Geometry.{levelOf, pageSize, unaligned}
-use Rattle.geometry.proofs.Geometry.{paged}
 use Rattle.vmsa.specs.Fields.{shareability, nonglobal}
 use Rattle.vmsa.specs.Answers.{Faulted, success, fault as faulted, refused, codeOf, numberOf}
 use Rattle.vmsa.specs.declared.Regime.{Regime}
@@ -26,11 +24,10 @@ use Rattle.checks.specs.declared.Checked.{Checked}
 use Rattle.checks.specs.declared.Checked.the-variants.{Accepted, Refused}
 use Rattle.checks.specs.Order.{walkCheck}
 use Rattle.checks.proofs.Accept.{walk-accepted}
-use Rattle.lookup.proofs.Decoding.{aligned8}
 use Rattle.permission.specs.Permission.{attributeOf}
 use Rattle.decision.specs.Decision.{flagDue, dirtyDue, updated, cacheable, outputOf, passing}
 use Rattle.walk.specs.Walk.{Outcome, poolBytes, withPoolBytes, applied, walkPool, walk}
-use Rattle.walk.proofs.Ends.{Found, found, ready, aligned-zero}
+use Rattle.walk.proofs.Ends.{Found, found, ready, multiple8}
 use Rattle.rules.specs.Steps.{leafSteps}
 use Rattle.rules.specs.Tables.{traceOf}
 use Rattle.rules.specs.Rule2.{stepsOf, LeafOf, offset, Placed}
@@ -48,7 +45,7 @@ leafIn l = record { value = l .value; left = l .left; tables = l .tables }
 -- what a success is told of its leaf
 abbrev pub told : Regime → Access → Leaf → ℕ → Success
 told r a l reads = record {
-  output = record { 0 = outputOf a l };
+  output = record { 0 = outputOf r a l };
   attribute = attributeOf r l;
   shareability = shareability (l .value);
   nonglobal = nonglobal (l .value);
@@ -101,8 +98,8 @@ module _ (r : Regime) (a : Access) (m : List ℕ) where
         let h = walk-accepted (length m) r a c .0 in
         let f = leaf-found l in
         let i = leaf-inside l in
-        let s8 = aligned8 pageBits (r .pool .start) paged (aligned-zero (r .pool .start) (h .pool .start)) in
-        let b8 = aligned8 pageBits (r .pool .address .0) paged (aligned-zero (r .pool .address .0) (h .address .aligned)) in
+        let s8 = multiple8 r (r .pool .start) (h .pool .start) in
+        let b8 = multiple8 r (r .pool .address .0) (h .address .aligned) in
         let a8 : l .address % 8 ≡ 0 = f .reached .aligned in
         record {
           least = omega arith;

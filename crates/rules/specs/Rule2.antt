@@ -7,8 +7,8 @@ use mathlib.Core.Path.{_≡_}
 use lib.ListN.{length, getD}
 use Rattle.descriptor.specs.Bytes.{Bytes, desc}
 use Rattle.descriptor.specs.Bits.{bit}
-use Rattle.vmsa.specs.Limits.{pageBits}
 use Rattle.geometry.specs.Geometry.{levelOf, span, cut, outputLimit}
+use Rattle.vmsa.specs.Granules.{pageBitsOf}
 use Rattle.vmsa.specs.Kinds.{isProbe, asksWrite, writes}
 use Rattle.vmsa.specs.Attributes.{attribute as attributeByte}
 use Rattle.vmsa.specs.Fields.{attributeIndex, shareability as shareabilityOf, nonglobal as nonglobalOf, af, ap2, dbm, sumCount, noWriteBelow, noUserBelow, uxnBelow, pxnBelow}
@@ -69,7 +69,7 @@ pub record Placed {r : Regime} {a : Access} {m : List ℕ} (l : LeafOf r a m) : 
 
 -- the right address and attributes: the leaf's address and the offset in its span, and the leaf's fields
 pub record Right {r : Regime} {a : Access} {m : List ℕ} (l : LeafOf r a m) (s : Success) : Type 0 where
-  pub output : s .output .0 ≡ cut (l .value) (span pageBits (l .left)) + a .address .0 % span pageBits (l .left)
+  pub output : s .output .0 ≡ cut (l .value) (span (pageBitsOf r) (l .left)) + a .address .0 % span (pageBitsOf r) (l .left)
   pub attribute : s .attribute ≡ attributeByte (r .attributes) (attributeIndex (l .value))
   pub shareability : s .shareability ≡ shareabilityOf (l .value)
   pub nonglobal : s .nonglobal ≡ nonglobalOf (l .value)

@@ -4,7 +4,7 @@ use mathlib.Core.Bool.{Bool, true, false, _||_}
 use mathlib.Core.List.{List, [], _∷_}
 use lib.Dec.{leb}
 use Rattle.descriptor.specs.Bits.{pick}
-use Rattle.vmsa.specs.Limits.{pageBits}
+use Rattle.vmsa.specs.Granules.{pageBitsOf}
 use Rattle.vmsa.specs.Fields.{noTables, withTable}
 use Rattle.geometry.specs.Geometry.{levelOf, firstLeft, outputLimit}
 use Rattle.vmsa.specs.declared.Regime.{Regime}
@@ -72,4 +72,4 @@ walkSteps r a pool =
     let range = rangeOf r (a .address .0) in
     step (range .disabled || outside (range .tsz) (a .address .0)) Translation 0
     ∷ step (leb (outputLimit (r .output)) (range .root .0)) AddressSize 0
-    ∷ levelSteps r a (contextOf r (a .address .0)) (poolReader r pool) (suc (firstLeft pageBits (range .tsz))) noTables (range .root .0)
+    ∷ levelSteps r a (contextOf r (a .address .0)) (poolReader r pool) (suc (firstLeft (pageBitsOf r) (range .tsz))) noTables (range .root .0)

@@ -15,9 +15,8 @@ use Rattle.vmsa.specs.declared.Refusal.{Refusal}
 use Rattle.vmsa.specs.declared.Success.{Success}
 use Rattle.checks.specs.declared.Checked.{Checked}
 use Rattle.checks.specs.declared.Checked.the-variants.{Accepted, Refused}
-use Rattle.checks.specs.Order.{firstOf, memoryRows, settingRows, storeRows}
+use Rattle.checks.specs.Order.{firstOf, memoryRows, settingRows, storeRows, andThen}
 use Rattle.tlb.specs.Replies.{Reply, done, refused as refusedWith, answered, Told, replyOf, uncounted, dirties}
-use Rattle.tlb.specs.Walker.{andThen}
 use Rattle.tlb.specs.Ours.{ours}
 use Rattle.session.specs.Model.{Session, setBy, storeBy, storeIn, setRegime, access, store, call}
 use Rattle.session.proofs.Calls.{access-answer}
@@ -86,7 +85,7 @@ access-read s m a = let x = access-answer s m a in subst⁻¹ (λ (y : Reply). a
 -- ---- and every reply of a set regime or a store is done or a refusal's
 
 pub set-read : (s : Session) (m : List ℕ) (r : Regime) → numberReply (refusalByte (call ours s m (setRegime r) .reply)) ≡ call ours s m (setRegime r) .reply
-set-read s m r = by (andThen (firstOf (memoryRows (length m) (r .pool))) (firstOf (settingRows r)))
+set-read s m r = by (andThen (firstOf (memoryRows (length m) r)) (firstOf (settingRows r)))
   where
     by : (x : Checked) → numberReply (refusalByte (setBy ours s m r x .reply)) ≡ setBy ours s m r x .reply
     by Accepted = refl
@@ -94,7 +93,7 @@ set-read s m r = by (andThen (firstOf (memoryRows (length m) (r .pool))) (firstO
 
 store-in : (m : List ℕ) (address value : ℕ) (g : Option Regime) → numberReply (refusalByte (storeIn ours g m address value .reply)) ≡ storeIn ours g m address value .reply
 store-in m address value none = refl
-store-in m address value (some r) = by (andThen (firstOf (memoryRows (length m) (r .pool))) (firstOf (storeRows (r .pool) address)))
+store-in m address value (some r) = by (andThen (firstOf (memoryRows (length m) r)) (firstOf (storeRows (r .pool) address)))
   where
     by : (x : Checked) → numberReply (refusalByte (storeBy ours r m address value x .reply)) ≡ storeBy ours r m address value x .reply
     by Accepted = refl

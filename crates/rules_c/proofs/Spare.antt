@@ -16,17 +16,17 @@ use Rattle.vmsa.specs.declared.Access.{Access}
 use Rattle.vmsa.specs.declared.Leaf.{Leaf}
 use Rattle.checks.specs.declared.Checked.{Checked}
 use Rattle.checks.specs.declared.Checked.the-variants.{Accepted, Refused}
-use Rattle.checks.specs.Order.{regimeCheck}
+use Rattle.checks.specs.Order.{regimeCheck, andThen}
 use Rattle.walk.specs.Walk.{walk}
 use Rattle.tlb.specs.declared.Entry.{Entry as EntryStruct}
 use Rattle.tlb.specs.Replies.{Reply, done, refused, answered, Told, told}
-use Rattle.tlb.specs.Walker.{entryCount, Walked, andThen, accessIn}
+use Rattle.tlb.specs.Walker.{entryCount, Walked, accessIn}
 use Rattle.tlb.specs.Ours.{ours}
-use Rattle.tlb.specs.Entries.{entryView, noEntry, regimeIn, pageFor, entryFor, keptEntry, accessedEntry}
+use Rattle.tlb.specs.Entries.{entryView, noEntry, regimeIn, pageFor, keptEntry, accessedEntry}
 use Rattle.session.specs.declared.Session.{Session as SessionStruct}
 use Rattle.tlb.proofs.Access.{Low, low-in}
 use Rattle.session.specs.Model.{Session, Handed, handed, Stepped, Call, setRegime, access, store, dropAll, setBy, storeIn, call}
-use Rattle.session.specs.View.{sessionView, emptyEntries, emptySession, setTo, setAfter, entryIn, withEntries, sessionAfter, leaves}
+use Rattle.session.specs.View.{sessionView, emptyEntries, emptySession, setTo, setAfter, numberIn, entryIn, withEntries, sessionAfter, leaves}
 use Rattle.words.specs.declared.AccessWords.{AccessWords}
 use Rattle.words.specs.declared.AnswerWords.{AnswerWords}
 use Rattle.words.specs.Words.{accessOf, wordsOf, walkWords, refusalByte, replyWords, replied}
@@ -79,9 +79,10 @@ given-spare : (g : RegimeWords) (n : ℕ) (e : EntryStruct) (m : List ℕ) (a : 
 given-spare g n e m a = access-spare (regimeIn (regimeSpare0 g) n) m a e ∙ ap (λ (r : Option Regime). accessIn ours r m a (entryView e)) (regime-in g n)
 
 accessed-entry : (g : RegimeWords) (n : ℕ) (e : EntryStruct) (m : List ℕ) (a : Access) → accessedEntry (regimeSpare0 g) n (entrySpare0 e) m a .entry ≡ entrySpare0 (accessedEntry g n e m a .entry)
+unfolding regimeOf
 accessed-entry g n e m a =
-    ap (λ (w : Walked). keptEntry (entrySpare0 e) (pageFor a) (w .kept)) (given-spare g n e m a)
-    ∙ kept e (pageFor a) (accessIn ours (regimeIn g n) m a (entryView e) .kept) (low-in (regimeIn g n) m a (entryView e))
+    ap (λ (w : Walked). keptEntry (entrySpare0 e) (pageFor (regimeOf g) a) (w .kept)) (given-spare g n e m a)
+    ∙ kept e (pageFor (regimeOf g) a) (accessIn ours (regimeIn g n) m a (entryView e) .kept) (low-in (regimeIn g n) m a (entryView e))
 
 -- sessions alike in all but their entries
 with-entries : (s : SessionStruct) (es fs : List EntryStruct) → es ≡ map entrySpare0 fs → withEntries (sessionSpare0 s) es ≡ sessionSpare0 (withEntries s fs)
@@ -95,16 +96,17 @@ set-to : (r : Regime) → setTo (regimeWords r) ≡ sessionSpare0 (setTo (regime
 set-to r i = record { regime = words-spare r i; entries = sym (same-entries entryCount) i; set = 1; spare8 = 0; spare16 = 0; spare32 = 0 }
 
 after : (s : SessionStruct) (m : List ℕ) (c : Call) → sessionAfter (sessionSpare0 s) m c ≡ sessionSpare0 (sessionAfter s m c)
+unfolding regimeOf
 after s m (setRegime r) = by (regimeCheck (length m) r)
   where
     by : (x : Checked) → setAfter (sessionSpare0 s) r x ≡ sessionSpare0 (setAfter s r x)
     by Accepted = set-to r
     by (Refused x) = refl
 after s m (access a) =
-    with-entries s _ (setAt (s .entries) (entryFor a) (accessedEntry (s .regime) (s .set) (entryIn s a) m a .entry))
-    (ap (λ (e : EntryStruct). setAt (map entrySpare0 (s .entries)) (entryFor a) (accessedEntry (regimeSpare0 (s .regime)) (s .set) e m a .entry)) (entry-at (s .entries) (entryFor a))
-    ∙ ap (setAt (map entrySpare0 (s .entries)) (entryFor a)) (accessed-entry (s .regime) (s .set) (entryIn s a) m a)
-    ∙ sym (map-set entrySpare0 (s .entries) (entryFor a) (accessedEntry (s .regime) (s .set) (entryIn s a) m a .entry)))
+    with-entries s _ (setAt (s .entries) (numberIn s a) (accessedEntry (s .regime) (s .set) (entryIn s a) m a .entry))
+    (ap (λ (e : EntryStruct). setAt (map entrySpare0 (s .entries)) (numberIn s a) (accessedEntry (regimeSpare0 (s .regime)) (s .set) e m a .entry)) (entry-at (s .entries) (numberIn s a))
+    ∙ ap (setAt (map entrySpare0 (s .entries)) (numberIn s a)) (accessed-entry (s .regime) (s .set) (entryIn s a) m a)
+    ∙ sym (map-set entrySpare0 (s .entries) (numberIn s a) (accessedEntry (s .regime) (s .set) (entryIn s a) m a .entry)))
 after s m (store address value) = refl
 after s m dropAll = with-entries s emptyEntries emptyEntries (sym (same-entries entryCount))
 
@@ -117,6 +119,7 @@ abbrev toldBy : Session → List ℕ → Call → Told Reply
 toldBy s m c = told (call ours s m c .reply) (call ours s m c .memory)
 
 told-spare : (s : SessionStruct) (m : List ℕ) (c : Call) → toldBy (sessionView (sessionSpare0 s)) m c ≡ toldBy (sessionView s) m c
+unfolding regimeOf
 told-spare s m (setRegime r) = by (andThen (ours .memoryCheck r (length m)) (ours .settingCheck r))
   where
     by : (x : Checked) → _≡_ {A = Told Reply} (told (setBy ours (sessionView (sessionSpare0 s)) m r x .reply) (setBy ours (sessionView (sessionSpare0 s)) m r x .memory)) (told (setBy ours (sessionView s) m r x .reply) (setBy ours (sessionView s) m r x .memory))
@@ -124,7 +127,7 @@ told-spare s m (setRegime r) = by (andThen (ours .memoryCheck r (length m)) (our
     by (Refused x) = refl
 told-spare s m (access a) =
     ap (λ (y : Stepped). told (y .reply) (y .memory)) (sym (access-is (sessionSpare0 s) m a))
-    ∙ ap (λ (e : EntryStruct). let w = accessIn ours (regimeIn (regimeSpare0 (s .regime)) (s .set)) m a (entryView e) in told (w .reply) (w .memory)) (entry-at (s .entries) (entryFor a))
+    ∙ ap (λ (e : EntryStruct). let w = accessIn ours (regimeIn (regimeSpare0 (s .regime)) (s .set)) m a (entryView e) in told (w .reply) (w .memory)) (entry-at (s .entries) (numberIn s a))
     ∙ ap (λ (w : Walked). told (w .reply) (w .memory)) (given-spare (s .regime) (s .set) (entryIn s a) m a)
     ∙ ap (λ (y : Stepped). told (y .reply) (y .memory)) (access-is s m a)
 told-spare s m (store address value) = ap (λ (g : Option Regime). let t = storeIn ours g m address value in told (t .reply) (t .memory)) (regime-in (s .regime) (s .set))

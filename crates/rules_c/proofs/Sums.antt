@@ -21,7 +21,8 @@ use Rattle.permission.specs.Permission.{attributeOf, writable, clean, user, uxn
 use Rattle.permission.proofs.Effective.{permission-same}
 use Rattle.decision.specs.Decision.{flagDue, dirtyDue, cacheable, outputOf, failing, passing}
 use Rattle.tlb.specs.declared.Entry.{Entry as EntryStruct}
-use Rattle.tlb.specs.Walker.{empty, holds, heldIn, andThen, recall, accessBy, accessIn}
+use Rattle.checks.specs.Order.{andThen}
+use Rattle.tlb.specs.Walker.{empty, holds, heldIn, recall, accessBy, accessIn}
 use Rattle.tlb.specs.Ours.{judged, ours}
 use Rattle.tlb.specs.Entries.{entryView}
 use Rattle.rule3.proofs.Agreement.{faultOf, successOf, resultBy, judged-by}
@@ -125,5 +126,5 @@ access-low r m a (some l) (Refused x) = refl
 pub access-spare : (g : Option Regime) (m : List ℕ) (a : Access) (e : EntryStruct) → accessIn ours g m a (entryView (entrySpare0 e)) ≡ accessIn ours g m a (entryView e)
 access-spare none m a e = refl
 access-spare (some r) m a e =
-    let c = andThen (ours .memoryCheck r (length m)) (ours .accessCheck a) in
+    let c = andThen (ours .memoryCheck r (length m)) (ours .accessCheck r a) in
     ap (λ (h : Option Leaf). accessBy ours r m a h c) (held-spare e (ours .page r a)) ∙ access-low r m a (heldIn (entryView e) (ours .page r a)) c

@@ -130,14 +130,14 @@ module _ (past : List Event) (m : List ℕ) (g : RegimeWords) (n : List ℕ) (a 
 
   -- the last rememberable access at the page's entry since the last emptying
   abbrev pub Last : (ℕ → Bool) → Option Moment
-  Last ok = latest ours ok past (entryFor (accessOf a))
+  Last ok = latest ours ok past (entryFor (regimeOf g) (accessOf a))
 
   pub record AccessRules : Type 0 where
     -- settled, and over the memory as it was left: what vmsa_walk gives, each number but the count of reads, and leaves
     pub settles : settled past ≡ true → n ≡ m → (x : AnswerWords) (l : List ℕ) → WalkSays n g a l x → (countedWords 0 w ≡ countedWords 0 x) × (n′ ≡ l)
     -- over any bytes of the same length, settled or not: of that page, of another, or none
-    pub held : (t : Moment) → Last anyCount ≡ some t → t .page ≡ pageFor (accessOf a) → (u : Moment) × (Last counted ≡ some u) × Recalls u
-    pub other : (t : Moment) → Last anyCount ≡ some t → t .page ≢ pageFor (accessOf a) → Walks
+    pub held : (t : Moment) → Last anyCount ≡ some t → t .page ≡ pageFor (regimeOf g) (accessOf a) → (u : Moment) × (Last counted ≡ some u) × Recalls u
+    pub other : (t : Moment) → Last anyCount ≡ some t → t .page ≢ pageFor (regimeOf g) (accessOf a) → Walks
     pub unheld : Last anyCount ≡ none → Walks
     -- vmsa_walk of a read, fetch or probe never makes a dirty mark: for them `held` gives the one answer, and no byte changes
     pub quiet : writes (accessOf a .kind) ≡ false → (h : RegimeWords) (k : List ℕ) (x : AnswerWords) (l : List ℕ) → WalkSays k h a l x → x .dirtied ≡ 0

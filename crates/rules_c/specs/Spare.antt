@@ -36,7 +36,7 @@ regimeSpare0 g = record {
   hpd0 = g .hpd0;
   hpd1 = g .hpd1;
   ee = g .ee;
-  spare8 = 0;
+  granule = g .granule;
   spare32 = 0;
 }
 

@@ -12,6 +12,7 @@ use Rattle.descriptor.specs.Bytes.{put}
 use Rattle.descriptor.specs.Bits.{pick}
 use Rattle.descriptor.proofs.Tests.{or-false}
 use Rattle.descriptor.proofs.Laws.{put-part}
+use Rattle.vmsa.specs.Settings.{initial}
 use Rattle.vmsa.specs.Words.{flag, regimeOf, regimeWords}
 use Rattle.vmsa.specs.declared.Regime.{Regime}
 use Rattle.vmsa.specs.declared.RegimeWords.{RegimeWords}
@@ -22,15 +23,16 @@ use Rattle.vmsa.proofs.Words.{regime-words}
 use Rattle.checks.specs.declared.Checked.{Checked}
 use Rattle.checks.specs.declared.Checked.the-variants.{Accepted, Refused}
 use Rattle.refusals.specs.Tests.{storeAddressBad}
-use Rattle.checks.specs.Order.{memoryRows, settingRows, storeRows, regimeCheck, sessionStoreCheck}
+use Rattle.checks.specs.Order.{memoryRows, settingRows, storeRows, regimeCheck, sessionStoreCheck, andThen}
 use Rattle.checks.proofs.Accept.{clear, pooled}
 use Rattle.walk.proofs.Parts.{length-part}
 use Rattle.tlb.specs.declared.Entry.{Entry as EntryStruct}
 use Rattle.tlb.specs.Replies.{Reply, Told, told, replyTo, refused}
-use Rattle.tlb.specs.Walker.{andThen, noRegime, Entry, empty, entryOf, Walked, putWord, accessIn}
+use Rattle.tlb.specs.Walker.{noRegime, Entry, empty, entryOf, Walked, putWord, accessIn}
 use Rattle.tlb.specs.Ours.{offsetOf, ours}
 use Rattle.tlb.specs.Entries.{entryView, noEntry, regimeIn, pageFor, entryFor, Filling, filling, filledBy, accessedEntry, entryReply}
-use Rattle.tlb.proofs.Walking.{first-append, put-is}
+use Rattle.checks.proofs.Rows.{first-append}
+use Rattle.tlb.proofs.Walking.{put-is}
 use Rattle.tlb.proofs.Access.{keptIn, accessed-view, AnAnswer, answer-in, hit-is-access}
 use Rattle.session.specs.declared.Session.{Session as SessionStruct}
 use Rattle.session.specs.Model.{Session, Handed, handed, Stepped, keep, setBy, setCall, learn, accessWith, accessCall, storeBy, storeIn, Call, setRegime, access, store, dropAll, call}
@@ -41,7 +43,7 @@ use Rattle.descriptor.proofs.Lists.{set-same, map-set}
 
 pub set-checked : (s : Session) (m : List ℕ) (r : Regime) → setCall ours s m r ≡ setBy ours s m r (regimeCheck (length m) r)
 unfolding regimeCheck
-set-checked s m r = ap (setBy ours s m r) (sym (first-append (memoryRows (length m) (r .pool)) (settingRows r)))
+set-checked s m r = ap (setBy ours s m r) (sym (first-append (memoryRows (length m) r) (settingRows r)))
 
 module _ (s : SessionStruct) (m : List ℕ) (r : Regime) where
   set-by : (x : Checked) → handed (setAfter s r x) m (replyTo x) ≡ handed (setAfter s r x) (setBy ours (sessionView s) m r x .memory) (setBy ours (sessionView s) m r x .reply)
@@ -78,12 +80,12 @@ storable-by pool address e =
       ltb-false (pool .address .0 + pool .length) (address + 8) (s3 .1),
     )
 
-pub store-accepted : (n : ℕ) (pool : Pool) (address : ℕ) → sessionStoreCheck n pool address ≡ Accepted → Storable n pool address
+pub store-accepted : (n : ℕ) (r : Regime) (address : ℕ) → sessionStoreCheck n r address ≡ Accepted → Storable n (r .pool) address
 unfolding sessionStoreCheck
-store-accepted n pool address e =
-    let c = clear (memoryRows n pool ++ storeRows pool address) e in
-    let s = storable-by pool address (c .1 .0) in
-    record { fits = pooled n pool (c .0) .fits; aligned = s .0; least = s .1; most = s .2 }
+store-accepted n r address e =
+    let c = clear (memoryRows n r ++ storeRows (r .pool) address) e in
+    let s = storable-by (r .pool) address (c .1 .0) in
+    record { fits = pooled n r (c .0) .fits; aligned = s .0; least = s .1; most = s .2 }
 
 pub stored : (r : Regime) (m : List ℕ) (address value : ℕ) → Storable (length m) (r .pool) address → (x : List ℕ) (k : ℕ) → k ≡ r .pool .length
     → x ≡ put (r .ee) (take k (drop (r .pool .start) m)) (address - r .pool .address .0) value
@@ -106,11 +108,11 @@ module _ (regime : RegimeWords) (set address value : ℕ) (m : List ℕ) where
   pub store-unset : flag set ≡ false → told (refused noRegime) m ≡ storeIn ours (regimeIn regime set) m address value
   store-unset f = ap storing (sym f)
 
-  pub store-set : flag set ≡ true → (r : Regime) → r ≡ regimeOf regime → (x : Checked) → sessionStoreCheck (length m) (r .pool) address ≡ x
+  pub store-set : flag set ≡ true → (r : Regime) → r ≡ regimeOf regime → (x : Checked) → sessionStoreCheck (length m) r address ≡ x
       → storeBy ours r m address value x ≡ storeIn ours (regimeIn regime set) m address value
   unfolding sessionStoreCheck
   store-set f r q x h =
-      ap (storeBy ours r m address value) (sym h ∙ first-append (memoryRows (length m) (r .pool)) (storeRows (r .pool) address))
+      ap (storeBy ours r m address value) (sym h ∙ first-append (memoryRows (length m) r) (storeRows (r .pool) address))
       ∙ ap (λ (y : Regime). storeIn ours (some y) m address value) q ∙ ap storing (sym f)
 
 pub store-leaves : (s : SessionStruct) (m : List ℕ) (address value : ℕ) (t : Told Reply) → t ≡ storeIn ours (regimeIn (s .regime) (s .set)) m address value
@@ -123,54 +125,77 @@ keep-at : (l : List Entry) (page : ℕ) (x : Entry) → getD l (entryOf page) em
 keep-at l page x q none = subst (λ (y : Entry). setAt l (entryOf page) y ≡ l) q (set-same l (entryOf page) empty)
 keep-at l page x q (some leaf) = refl
 
+-- a regime by whose granule the page of an access is counted: the session's, and any where it has none, since then nothing is kept
+abbrev pub By : Option Regime → Regime → Type 0
+By none r = Unit {0}
+By (some q) r = q ≡ r
+
+-- one for every session of the model
+abbrev pub regimeOr : Option Regime → Regime
+regimeOr none = initial
+regimeOr (some r) = r
+
+pub by-or : (g : Option Regime) → By g (regimeOr g)
+by-or none = tt
+by-or (some r) = refl
+
 -- an access of the model, by its page's entry
-pub access-learn : (s : Session) (m : List ℕ) (a : Access) (g : Option Regime) → learn ours s (pageFor a) (accessIn ours g m a (getD (s .entries) (entryFor a) empty)) ≡ accessWith ours s m a g
-access-learn s m a none = refl
-access-learn s m a (some r) = refl
+pub access-learn : (s : Session) (m : List ℕ) (a : Access) (r : Regime) (g : Option Regime) → By g r
+    → learn ours s (pageFor r a) (accessIn ours g m a (getD (s .entries) (entryFor r a) empty)) ≡ accessWith ours s m a g
+access-learn s m a r none e = refl
+access-learn s m a r (some q) e = subst (λ (x : Regime). learn ours s (pageFor x a) (accessIn ours (some q) m a (getD (s .entries) (entryFor x a) empty)) ≡ accessWith ours s m a (some q)) e refl
 
 -- its reply is an answer's
 pub access-answer : (s : Session) (m : List ℕ) (a : Access) → AnAnswer (call ours s m (access a) .reply)
 access-answer s m a =
-    subst (λ (y : Stepped). AnAnswer (y .reply)) (access-learn s m a (s .regime)) (answer-in (s .regime) m a (getD (s .entries) (entryFor a) empty))
+    let r = regimeOr (s .regime) in
+    subst (λ (y : Stepped). AnAnswer (y .reply)) (access-learn s m a r (s .regime) (by-or (s .regime))) (answer-in (s .regime) m a (getD (s .entries) (entryFor r a) empty))
 
 module _ (s : SessionStruct) (m : List ℕ) (a : Access) where
+  abbrev r : Regime
+  r = regimeOf (s .regime)
+
+  by-in : (b : Bool) → By (pick b (some r) none) r
+  by-in true = refl
+  by-in false = tt
+
   abbrev pub given : Walked
   given = accessIn ours (regimeIn (s .regime) (s .set)) m a (entryView (entryIn s a))
 
   -- the entry of the page, in the model's values
-  entry-view : getD (sessionView s .entries) (entryFor a) empty ≡ entryView (entryIn s a)
-  entry-view = List·getD-map entryView (s .entries) (entryFor a) noEntry
+  entry-view : getD (sessionView s .entries) (entryFor r a) empty ≡ entryView (entryIn s a)
+  entry-view = List·getD-map entryView (s .entries) (entryFor r a) noEntry
 
-  pub access-is : learn ours (sessionView s) (pageFor a) given ≡ accessCall ours (sessionView s) m a
+  pub access-is : learn ours (sessionView s) (pageFor r a) given ≡ accessCall ours (sessionView s) m a
   access-is =
-      ap (λ (e : Entry). learn ours (sessionView s) (pageFor a) (accessIn ours (regimeIn (s .regime) (s .set)) m a e)) (sym entry-view)
-      ∙ access-learn (sessionView s) m a (regimeIn (s .regime) (s .set))
+      ap (λ (e : Entry). learn ours (sessionView s) (pageFor r a) (accessIn ours (regimeIn (s .regime) (s .set)) m a e)) (sym entry-view)
+      ∙ access-learn (sessionView s) m a r (regimeIn (s .regime) (s .set)) (by-in (flag (s .set)))
 
-  pub entry-leaves : (x : Filling Reply) → x ≡ accessedEntry (s .regime) (s .set) (entryIn s a) m a → handed (withEntry s (entryFor a) (x .entry)) (x .memory) (x .reply) ≡ leaves s m (access a)
+  pub entry-leaves : (x : Filling Reply) → x ≡ accessedEntry (s .regime) (s .set) (entryIn s a) m a → handed (withEntry s (entryFor r a) (x .entry)) (x .memory) (x .reply) ≡ leaves s m (access a)
   entry-leaves x e =
-      ap (λ (y : Filling Reply). handed (withEntry s (entryFor a) (y .entry)) (y .memory) (y .reply)) e
+      ap (λ (y : Filling Reply). handed (withEntry s (entryFor r a) (y .entry)) (y .memory) (y .reply)) e
       ∙ ap (λ (y : Stepped). handed (accessedSession s m a) (y .memory) (y .reply)) access-is
 
   -- an entry put where it lies already
-  with-same : withEntry s (entryFor a) (entryIn s a) ≡ s
-  with-same = ap (withEntries s) (set-same (s .entries) (entryFor a) noEntry)
+  with-same : withEntry s (entryFor r a) (entryIn s a) ≡ s
+  with-same = ap (withEntries s) (set-same (s .entries) (entryFor r a) noEntry)
 
   -- where nothing is kept, the session stays as it was
   pub unkept-same : given .kept ≡ none → accessedSession s m a ≡ s
-  unkept-same q = ap (λ (k : Option Leaf). withEntry s (entryFor a) (filledBy (entryIn s a) a (record { reply = given .reply; memory = given .memory; kept = k }) .entry)) q ∙ with-same
+  unkept-same q = ap (λ (k : Option Leaf). withEntry s (entryFor r a) (filledBy (entryIn s a) r a (record { reply = given .reply; memory = given .memory; kept = k }) .entry)) q ∙ with-same
 
   -- a reply that the entry gives
   pub hit-leaves : (reply : Reply) → some reply ≡ entryReply (length m) a (entryView (entryIn s a)) (regimeIn (s .regime) (s .set)) → handed s m reply ≡ leaves s m (access a)
   hit-leaves reply h =
       ap (λ (t : SessionStruct). handed t m reply) (sym with-same)
-      ∙ entry-leaves (filling (entryIn s a) m reply) (ap (filledBy (entryIn s a) a) (hit-is-access (regimeIn (s .regime) (s .set)) m a (entryView (entryIn s a)) reply h))
+      ∙ entry-leaves (filling (entryIn s a) m reply) (ap (filledBy (entryIn s a) r a) (hit-is-access (regimeIn (s .regime) (s .set)) m a (entryView (entryIn s a)) reply h))
 
   access-view : sessionView (accessedSession s m a) ≡ accessCall ours (sessionView s) m a .session
   access-view =
       ap (λ (l : List Entry). let t : Session = record { regime = sessionView s .regime; entries = l } in t)
-      (map-set entryView (s .entries) (entryFor a) (accessedEntry (s .regime) (s .set) (entryIn s a) m a .entry)
-      ∙ ap (setAt (sessionView s .entries) (entryFor a)) (accessed-view (regimeIn (s .regime) (s .set)) m a (entryIn s a))
-      ∙ keep-at (sessionView s .entries) (pageFor a) (entryView (entryIn s a)) entry-view (given .kept))
+      (map-set entryView (s .entries) (entryFor r a) (accessedEntry (s .regime) (s .set) (entryIn s a) m a .entry)
+      ∙ ap (setAt (sessionView s .entries) (entryFor r a)) (accessed-view (regimeIn (s .regime) (s .set)) m a (entryIn s a) (pageFor r a))
+      ∙ keep-at (sessionView s .entries) (pageFor r a) (entryView (entryIn s a)) entry-view (given .kept))
       ∙ ap (λ (y : Stepped). y .session) access-is
 
 -- ---- what a call leaves is the model's call, in the model's values

@@ -10,7 +10,8 @@ use Rattle.vmsa.specs.declared.Leaf.{Leaf}
 use Rattle.checks.specs.declared.Checked.{Checked}
 use Rattle.checks.specs.declared.Checked.the-variants.{Accepted, Refused}
 use Rattle.tlb.specs.Replies.{Reply, done, refused, Told, told}
-use Rattle.tlb.specs.Walker.{Walker, andThen, noRegime, Entry, empty, holds, entryCount, entryOf, heldIn, Walked, putWord, accessUnder}
+use Rattle.checks.specs.Order.{andThen}
+use Rattle.tlb.specs.Walker.{Walker, noRegime, Entry, empty, holds, entryCount, entryOf, heldIn, Walked, putWord, accessUnder}
 
 -- 64 empty entries
 abbrev pub noEntries : List Entry

@@ -4,7 +4,7 @@ use mathlib.Core.List.{List, map}
 use mathlib.Core.Option.{Option}
 use lib.ListN.{length, getD, set as setAt, replicate}
 use Rattle.vmsa.specs.Settings.{initial}
-use Rattle.vmsa.specs.Words.{regimeWords}
+use Rattle.vmsa.specs.Words.{regimeOf, regimeWords}
 use Rattle.vmsa.specs.declared.RegimeWords.{RegimeWords}
 use Rattle.vmsa.specs.declared.Regime.{Regime}
 use Rattle.vmsa.specs.declared.Access.{Access}
@@ -55,15 +55,18 @@ abbrev pub setAfter : SessionStruct → Regime → Checked → SessionStruct
 setAfter s r Accepted = setTo (regimeWords r)
 setAfter s r (Refused x) = s
 
--- an access: at most the entry of its page is replaced
+-- an access: at most the entry of its page is replaced, by the granule of the session's regime
+abbrev pub numberIn : SessionStruct → Access → ℕ
+numberIn s a = entryFor (regimeOf (s .regime)) a
+
 abbrev pub entryIn : SessionStruct → Access → EntryStruct
-entryIn s a = getD (s .entries) (entryFor a) noEntry
+entryIn s a = getD (s .entries) (numberIn s a) noEntry
 
 abbrev pub withEntry : SessionStruct → ℕ → EntryStruct → SessionStruct
 withEntry s i e = withEntries s (setAt (s .entries) i e)
 
 abbrev pub accessedSession : SessionStruct → List ℕ → Access → SessionStruct
-accessedSession s m a = withEntry s (entryFor a) (accessedEntry (s .regime) (s .set) (entryIn s a) m a .entry)
+accessedSession s m a = withEntry s (numberIn s a) (accessedEntry (s .regime) (s .set) (entryIn s a) m a .entry)
 
 -- a drop all: every entry is the empty one
 abbrev pub emptied : SessionStruct → SessionStruct

@@ -54,7 +54,7 @@ pub fn store_in(
     }
     let r = regime.regime();
     let pool = r.pool;
-    match checks::check_session_store(memory.len(), pool, address) {
+    match checks::check_session_store(memory.len(), r, address) {
         Checked::Refused(refusal) => Checked::Refused(refusal),
         Checked::Accepted => {
             let start = pool.start;
@@ -123,7 +123,7 @@ impl Session {
     pub fn access(mut self, memory: &mut [u8], a: Access) -> Accessed
         ensures { λ x. ⌜ handed (x .session) (now (memory .exit)) (replyOf (view (x .answer))) ≡ leaves self (now (memory .entry)) (access a) ⌝ }
     {
-        let i = tlb::entry_of(a);
+        let i = tlb::entry_of(self.regime, a);
         let entries = self.entries;
         let filled = tlb::access_entry(self.regime, self.set, entries[i], memory, a);
         let entry = filled.entry;

@@ -12,7 +12,6 @@ use Rattle.vmsa.specs.Fields.{sumCount}
 use Rattle.vmsa.specs.Answers.{Result, success, fault, refused as refusedWith, view, cacheableIn, codeOf, numberOf, dirtiedIn}
 use Rattle.vmsa.specs.declared.Regime.{Regime}
 use Rattle.vmsa.specs.declared.RegimeWords.{RegimeWords}
-use Rattle.vmsa.specs.declared.Pool.{Pool}
 use Rattle.vmsa.specs.declared.Access.{Access}
 use Rattle.vmsa.specs.declared.Leaf.{Leaf}
 use Rattle.vmsa.specs.declared.FaultKind.the-variants.{Translation}
@@ -20,7 +19,7 @@ use Rattle.vmsa.specs.declared.Answer.{Answer}
 use Rattle.vmsa.proofs.Answers.{LowIn, view-settles}
 use Rattle.checks.specs.declared.Checked.{Checked}
 use Rattle.checks.specs.declared.Checked.the-variants.{Accepted, Refused}
-use Rattle.checks.specs.Order.{memoryRows, accessRows, sessionAccessCheck}
+use Rattle.checks.specs.Order.{memoryRows, accessRows, sessionAccessCheck, andThen}
 use Rattle.checks.proofs.Accept.{clear, pooled, shaped}
 use Rattle.walk.specs.declared.Walked.{Walked as WalkedStruct}
 use Rattle.walk.specs.Walk.{Outcome, outcome, walkPool, keptPool, keptLeaf}
@@ -30,37 +29,38 @@ use Rattle.decision.specs.Decision.{decision}
 use Rattle.walk.specs.Walk.{revalued}
 use Rattle.tlb.specs.declared.Entry.{Entry as EntryStruct}
 use Rattle.tlb.specs.Replies.{Reply, done, refused, answered, replyOf}
-use Rattle.tlb.specs.Walker.{Spot, lost, found as foundAt, andThen, noRegime, Entry, holds, heldIn, Walked, declined, walkFrom, walked, accessHeld, accessBy, accessUnder, accessIn}
+use Rattle.tlb.specs.Walker.{Spot, lost, found as foundAt, noRegime, Entry, holds, heldIn, Walked, declined, walkFrom, walked, accessHeld, accessBy, accessUnder, accessIn}
 use Rattle.tlb.specs.Ours.{usable, located, judged, stamped, ours}
-use Rattle.tlb.specs.Entries.{entryView, pageFor, keptEntry, entryAnswer, checkedReply, entryReply, hitKindIn, isHit, regimeIn, walkedView}
+use Rattle.tlb.specs.Entries.{entryView, keptEntry, entryAnswer, checkedReply, entryReply, regimeIn, walkedView}
 use Rattle.tlb.proofs.Deciding.{reply-decision}
-use Rattle.tlb.proofs.Entries.{hitWith, hit-gives, kept-view}
+use Rattle.tlb.proofs.Entries.{hitWith, hit-gives, walk-gives, kept-view}
 use Rattle.tlb.proofs.Found.{where-found, in-the-pool, low-lost}
-use Rattle.tlb.proofs.Walking.{first-append, usable-sized, usable-root, walked-pool}
+use Rattle.checks.proofs.Rows.{first-append}
+use Rattle.tlb.proofs.Walking.{usable-sized, usable-root, walked-pool}
 
 -- ---- the checks
 
 -- rows 1, 6 and 7, one after another
-checks-apart : (n : ℕ) (r : Regime) (a : Access) → andThen (ours .memoryCheck r n) (ours .accessCheck a) ≡ sessionAccessCheck n (r .pool) a
+checks-apart : (n : ℕ) (r : Regime) (a : Access) → andThen (ours .memoryCheck r n) (ours .accessCheck r a) ≡ sessionAccessCheck n r a
 unfolding sessionAccessCheck
-checks-apart n r a = sym (first-append (memoryRows n (r .pool)) (accessRows a))
+checks-apart n r a = sym (first-append (memoryRows n r) (accessRows r a))
 
-pub access-checked : (r : Regime) (m : List ℕ) (a : Access) (h : Option Leaf) (x : Checked) → sessionAccessCheck (length m) (r .pool) a ≡ x → accessBy ours r m a h x ≡ accessUnder ours r m a h
+pub access-checked : (r : Regime) (m : List ℕ) (a : Access) (h : Option Leaf) (x : Checked) → sessionAccessCheck (length m) r a ≡ x → accessBy ours r m a h x ≡ accessUnder ours r m a h
 access-checked r m a h x e = ap (accessBy ours r m a h) (sym (checks-apart (length m) r a ∙ e))
 
 -- what acceptance gives
-pub access-accepted : (n : ℕ) (pool : Pool) (a : Access) → sessionAccessCheck n pool a ≡ Accepted → (pool .start + pool .length ≤ n) × (0 < a .size)
+pub access-accepted : (n : ℕ) (r : Regime) (a : Access) → sessionAccessCheck n r a ≡ Accepted → (r .pool .start + r .pool .length ≤ n) × (0 < a .size)
 unfolding sessionAccessCheck
-access-accepted n pool a e =
-    let c = clear (memoryRows n pool ++ accessRows a) e in
-    (pooled n pool (c .0) .fits, shaped a (c .1 .0) (c .1 .1 .0) .positive)
+access-accepted n r a e =
+    let c = clear (memoryRows n r ++ accessRows r a) e in
+    (pooled n r (c .0) .fits, shaped r a (c .1 .0) (c .1 .1 .0) .positive)
 
 -- an access by whether the regime is set
 module _ (regime : RegimeWords) (set : ℕ) (m : List ℕ) (a : Access) (e : Entry) where
   pub access-unset : flag set ≡ false → declined m noRegime ≡ accessIn ours (regimeIn regime set) m a e
   access-unset f = ap (λ (b : Bool). accessIn ours (pick b (some (regimeOf regime)) none) m a e) (sym f)
 
-  pub access-set : flag set ≡ true → (x : Checked) → sessionAccessCheck (length m) (regimeOf regime .pool) a ≡ x
+  pub access-set : flag set ≡ true → (x : Checked) → sessionAccessCheck (length m) (regimeOf regime) a ≡ x
       → accessBy ours (regimeOf regime) m a (heldIn e (ours .page (regimeOf regime) a)) x ≡ accessIn ours (regimeIn regime set) m a e
   access-set f x h =
       access-checked (regimeOf regime) m a (heldIn e (ours .page (regimeOf regime) a)) x h
@@ -113,7 +113,7 @@ low-by r m a h (Refused x) = tt
 
 pub low-in : (g : Option Regime) (m : List ℕ) (a : Access) (e : Entry) → Low (accessIn ours g m a e .kept)
 low-in none m a e = tt
-low-in (some r) m a e = low-by r m a (heldIn e (ours .page r a)) (andThen (ours .memoryCheck r (length m)) (ours .accessCheck a))
+low-in (some r) m a e = low-by r m a (heldIn e (ours .page r a)) (andThen (ours .memoryCheck r (length m)) (ours .accessCheck r a))
 
 -- so the entry that it leaves holds it
 abbrev pub keptIn : Entry → ℕ → Option Leaf → Entry
@@ -124,9 +124,9 @@ kept-by : (e : EntryStruct) (page : ℕ) (k : Option Leaf) → Low k → entryVi
 kept-by e page none h = refl
 kept-by e page (some leaf) h = kept-view page leaf (h .0)
 
-pub accessed-view : (g : Option Regime) (m : List ℕ) (a : Access) (e : EntryStruct)
-    → entryView (keptEntry e (pageFor a) (accessIn ours g m a (entryView e) .kept)) ≡ keptIn (entryView e) (pageFor a) (accessIn ours g m a (entryView e) .kept)
-accessed-view g m a e = kept-by e (pageFor a) (accessIn ours g m a (entryView e) .kept) (low-in g m a (entryView e))
+pub accessed-view : (g : Option Regime) (m : List ℕ) (a : Access) (e : EntryStruct) (page : ℕ)
+    → entryView (keptEntry e page (accessIn ours g m a (entryView e) .kept)) ≡ keptIn (entryView e) page (accessIn ours g m a (entryView e) .kept)
+accessed-view g m a e page = kept-by e page (accessIn ours g m a (entryView e) .kept) (low-in g m a (entryView e))
 
 -- ---- an answer with its count put back
 
@@ -180,7 +180,7 @@ answer-by r m a h (Refused x) = (refusedWith (numberOf x), refl, tt)
 
 pub answer-in : (g : Option Regime) (m : List ℕ) (a : Access) (e : Entry) → AnAnswer (accessIn ours g m a e .reply)
 answer-in none m a e = (refusedWith noRegime, refl, tt)
-answer-in (some r) m a e = answer-by r m a (heldIn e (ours .page r a)) (andThen (ours .memoryCheck r (length m)) (ours .accessCheck a))
+answer-in (some r) m a e = answer-by r m a (heldIn e (ours .page r a)) (andThen (ours .memoryCheck r (length m)) (ours .accessCheck r a))
 
 result-of : (o p : Result) → replyOf o ≡ replyOf p → o ≡ p
 result-of o p e = sym (recounted o) ∙ ap counted e ∙ recounted p
@@ -188,38 +188,38 @@ result-of o p e = sym (recounted o) ∙ ap counted e ∙ recounted p
 pub reply-settles : (x y : Answer) → AnAnswer (replyOf (view x)) → replyOf (view x) ≡ replyOf (view y) → x ≡ y
 reply-settles x y h e = view-settles x y (subst LowIn (sym (result-of (view x) (h .0) (h .1))) (h .2)) (result-of (view x) (view y) e)
 
--- ---- a hit
+-- ---- what a session says at once, and what is left to the walk
 
--- a reply that the entry gives is the access, and changes nothing
+-- a reply that is given at once is the access, and changes nothing
 pub hit-is-access : (g : Option Regime) (m : List ℕ) (a : Access) (e : Entry) (reply : Reply) → some reply ≡ entryReply (length m) a e g
     → record { reply = reply; memory = m; kept = none } ≡ accessIn ours g m a e
-hit-is-access none m a e reply h = clash (cc)
-hit-is-access (some r) m a e reply h = by (sessionAccessCheck (length m) (r .pool) a) refl h
+hit-is-access none m a e reply h = ap (λ (x : Reply). record { reply = x; memory = m; kept = none }) (Option·some-injective reply (refused noRegime) h)
+hit-is-access (some r) m a e reply h = by (sessionAccessCheck (length m) r a) refl h
   where
-    by : (x : Checked) → sessionAccessCheck (length m) (r .pool) a ≡ x → some reply ≡ checkedReply x (entryAnswer ours r a e) → hitWith r m a reply ≡ accessIn ours (some r) m a e
-    by (Refused x) q h = clash (cc)
+    by : (x : Checked) → sessionAccessCheck (length m) r a ≡ x → some reply ≡ checkedReply x (entryAnswer ours r a e) → hitWith r m a reply ≡ accessIn ours (some r) m a e
+    by (Refused x) q h = ap (hitWith r m a) (Option·some-injective reply (refused (numberOf x)) h) ∙ access-checked r m a (heldIn e (ours .page r a)) (Refused x) q
     by Accepted q h = hit-gives r m a (heldIn e (ours .page r a)) reply h ∙ access-checked r m a (heldIn e (ours .page r a)) Accepted q
 
--- where there is one, the entry's reply is the entry's answer
-pub hit-reply : (n : ℕ) (a : Access) (e : Entry) (regime : RegimeWords) (set : ℕ) → isHit (hitKindIn (entryReply n a e (regimeIn regime set))) ≡ true → entryReply n a e (regimeIn regime set) ≡ entryAnswer ours (regimeOf regime) a e
-hit-reply n a e regime set t = by (flag set) t
+-- where nothing is said at once, the regime is set, the checks let the access through, and it is the walk
+pub record Walks (r : Regime) (m : List ℕ) (a : Access) (w : Walked) : Type 0 where
+  pub fits : r .pool .start + r .pool .length ≤ length m
+  pub positive : 0 < a .size
+  pub same : walked ours r m a ≡ w
+
+pub walk-is-access : (regime : RegimeWords) (set : ℕ) (m : List ℕ) (a : Access) (e : Entry) → none ≡ entryReply (length m) a e (regimeIn regime set)
+    → Walks (regimeOf regime) m a (accessIn ours (regimeIn regime set) m a e)
+walk-is-access regime set m a e h = by (flag set) h
   where
-    accepted : (x : Checked) → isHit (hitKindIn (checkedReply x (entryAnswer ours (regimeOf regime) a e))) ≡ true → checkedReply x (entryAnswer ours (regimeOf regime) a e) ≡ entryAnswer ours (regimeOf regime) a e
-    accepted Accepted t = refl
-    accepted (Refused x) t = clash (cc)
+    accepted : (x : Checked) → sessionAccessCheck (length m) (regimeOf regime) a ≡ x → none ≡ checkedReply x (entryAnswer ours (regimeOf regime) a e) → Walks (regimeOf regime) m a (accessIn ours (some (regimeOf regime)) m a e)
+    accepted (Refused x) q h = clash (cc)
+    accepted Accepted q h =
+        let t = access-accepted (length m) (regimeOf regime) a q in
+        record {
+          fits = t .0;
+          positive = t .1;
+          same = walk-gives (regimeOf regime) m a (heldIn e (ours .page (regimeOf regime) a)) h ∙ access-checked (regimeOf regime) m a (heldIn e (ours .page (regimeOf regime) a)) Accepted q;
+        }
 
-    by : (b : Bool) → isHit (hitKindIn (entryReply n a e (pick b (some (regimeOf regime)) none))) ≡ true → entryReply n a e (pick b (some (regimeOf regime)) none) ≡ entryAnswer ours (regimeOf regime) a e
-    by true t = accepted (sessionAccessCheck n (regimeOf regime .pool) a) t
-    by false t = clash (cc)
-
--- and the call is accepted, so its size is positive
-pub hit-size : (n : ℕ) (a : Access) (e : Entry) (regime : RegimeWords) (set : ℕ) → isHit (hitKindIn (entryReply n a e (regimeIn regime set))) ≡ true → 0 < a .size
-hit-size n a e regime set t = by (flag set) t
-  where
-    accepted : (x : Checked) → sessionAccessCheck n (regimeOf regime .pool) a ≡ x → isHit (hitKindIn (checkedReply x (entryAnswer ours (regimeOf regime) a e))) ≡ true → 0 < a .size
-    accepted Accepted h t = access-accepted n (regimeOf regime .pool) a h .1
-    accepted (Refused x) h t = clash (cc)
-
-    by : (b : Bool) → isHit (hitKindIn (entryReply n a e (pick b (some (regimeOf regime)) none))) ≡ true → 0 < a .size
-    by true t = accepted (sessionAccessCheck n (regimeOf regime .pool) a) refl t
-    by false t = clash (cc)
+    by : (b : Bool) → none ≡ entryReply (length m) a e (pick b (some (regimeOf regime)) none) → Walks (regimeOf regime) m a (accessIn ours (pick b (some (regimeOf regime)) none) m a e)
+    by true h = accepted (sessionAccessCheck (length m) (regimeOf regime) a) refl h
+    by false h = clash (cc)

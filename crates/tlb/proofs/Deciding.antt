@@ -1,14 +1,14 @@
 -- Steps 6 to 8 with the count of reads apart: what a decision says is what the session's walker says.
 use Prim.Native.Nat.{ℕ}
 use mathlib.Core.Bool.{Bool, true, false}
-use mathlib.Core.Option.{none, some}
-use mathlib.Core.Path.{_≡_, refl, sym}
-use native.Mathlib.Omega.{arith}
+use mathlib.Core.Path.{_≡_, refl, ap}
 use Rattle.descriptor.specs.Bits.{pick}
-use Rattle.vmsa.specs.Answers.{Result, cacheableIn, dirtiedIn}
+use Rattle.descriptor.proofs.Tests.{clash}
+use Rattle.vmsa.specs.Answers.{cacheableIn, dirtiedIn}
 use Rattle.vmsa.specs.declared.Regime.{Regime}
 use Rattle.vmsa.specs.declared.Access.{Access}
 use Rattle.vmsa.specs.declared.Leaf.{Leaf}
+use Rattle.vmsa.specs.declared.FaultKind.{FaultKind}
 use Rattle.vmsa.specs.declared.FaultKind.the-variants.{AccessFlag, Alignment, Permission}
 use Rattle.permission.specs.Permission.{flagFails, alignmentFails, permissionFails}
 use Rattle.decision.specs.declared.HitKind.{HitKind}
@@ -16,7 +16,6 @@ use Rattle.decision.specs.declared.HitKind.the-variants as hits
 use Rattle.decision.specs.Decision.{Decision, dirtyDue, updated, failing, passing, decision, hitKind}
 use Rattle.tlb.specs.Replies.{answered, replyOf, updates}
 use Rattle.tlb.specs.Ours.{judged, stamped}
-use Rattle.tlb.specs.Entries.{hitKindOf, hitKindIn}
 
 -- a decision, by the three tests
 abbrev decided : Regime → Access → Leaf → ℕ → Bool → Bool → Bool → Decision
@@ -24,10 +23,7 @@ decided r a l n x y z = pick x (failing l n AccessFlag) (pick y (failing l n Ali
 
 -- the kind of a hit, by the three tests
 abbrev kind-by : Regime → Access → Leaf → Bool → Bool → Bool → HitKind
-kind-by r a l x y z = pick x hits.Fault (pick y hits.Fault (pick z hits.Fault (pick (dirtyDue r a l) hits.Miss hits.Success)))
-
-fault-success : hits.Fault ≡ hits.Success → ⊥
-fault-success e = let z : _≡_ {A = ℕ} 0 1 = cc in omega arith
+kind-by r a l x y z = pick x (hits.Fault AccessFlag) (pick y (hits.Fault Alignment) (pick z (hits.Fault Permission) (pick (dirtyDue r a l) hits.Miss hits.Success)))
 
 module _ (r : Regime) (a : Access) (l : Leaf) (n : ℕ) where
   reply-by : (x y z : Bool) → replyOf (decided r a l n x y z .result) ≡ answered (decided r a l 0 x y z .result) n
@@ -77,29 +73,45 @@ module _ (r : Regime) (a : Access) (l : Leaf) (n : ℕ) where
   unfolding decision judged
   cache-decision = cache-by (flagFails r l) (alignmentFails r a l) (permissionFails r a l)
 
-  -- the kind of the hit is what the leaf answers
-  clean-by : (d : Bool) (o : Result) → hitKindOf o ≡ hits.Success → pick d hits.Miss hits.Success ≡ hitKindIn (pick d none (some (answered o 0)))
-  clean-by true o e = refl
-  clean-by false o e = sym e
+-- ---- how a held leaf answers: with a success or a fault that changes nothing, or not at all
 
-  pass-by : (x y z : Bool) → kind-by r a l x y z ≡ hitKindIn (pick (dirtiedIn (decided r a l 0 x y z .result)) none (some (answered (decided r a l 0 x y z .result) 0)))
+module _ (r : Regime) (a : Access) (l : Leaf) where
+  dirty-by : (d : Bool) → (pick d hits.Miss hits.Success ≡ hits.Success → d ≡ false) × (pick d hits.Miss hits.Success ≡ hits.Miss → d ≡ true)
+  dirty-by true = (λ e. clash (cc), λ e. refl)
+  dirty-by false = (λ e. refl, λ e. clash (cc))
+
+  never-dirty : (d : Bool) (kind : FaultKind) {A : Type 0} → pick d hits.Miss hits.Success ≡ hits.Fault kind → A
+  never-dirty true kind e = clash (cc)
+  never-dirty false kind e = clash (cc)
+
+  success-by : (x y z : Bool) → kind-by r a l x y z ≡ hits.Success → dirtiedIn (decided r a l 0 x y z .result) ≡ false
   unfolding failing passing
-  pass-by true y z = refl
-  pass-by false true z = refl
-  pass-by false false true = refl
-  pass-by false false false = clean-by (dirtyDue r a l) (passing r a l 0 .result) refl
+  success-by true y z e = clash (cc)
+  success-by false true z e = clash (cc)
+  success-by false false true e = clash (cc)
+  success-by false false false e = dirty-by (dirtyDue r a l) .0 e
 
-  pub kind-decision : hitKind r a l ≡ hitKindIn (pick (dirtiedIn (judged r l a)) none (some (answered (judged r l a) 0)))
+  miss-by : (x y z : Bool) → kind-by r a l x y z ≡ hits.Miss → dirtiedIn (decided r a l 0 x y z .result) ≡ true
+  unfolding failing passing
+  miss-by true y z e = clash (cc)
+  miss-by false true z e = clash (cc)
+  miss-by false false true e = clash (cc)
+  miss-by false false false e = dirty-by (dirtyDue r a l) .1 e
+
+  fault-by : (x y z : Bool) (kind : FaultKind) → kind-by r a l x y z ≡ hits.Fault kind → decided r a l 0 x y z ≡ failing l 0 kind
+  fault-by true y z kind e = let q : AccessFlag ≡ kind = cc in ap (failing l 0) q
+  fault-by false true z kind e = let q : Alignment ≡ kind = cc in ap (failing l 0) q
+  fault-by false false true kind e = let q : Permission ≡ kind = cc in ap (failing l 0) q
+  fault-by false false false kind e = never-dirty (dirtyDue r a l) kind e
+
+  pub kind-success : hitKind r a l ≡ hits.Success → dirtiedIn (judged r l a) ≡ false
   unfolding decision judged hitKind
-  kind-decision = pass-by (flagFails r l) (alignmentFails r a l) (permissionFails r a l)
+  kind-success e = success-by (flagFails r l) (alignmentFails r a l) (permissionFails r a l) e
 
-  -- what a hit that is a success answers
-  passed-by : (x y z : Bool) → kind-by r a l x y z ≡ hits.Success → passing r a l n .result ≡ decided r a l n x y z .result
-  passed-by true y z e = absurd (fault-success e)
-  passed-by false true z e = absurd (fault-success e)
-  passed-by false false true e = absurd (fault-success e)
-  passed-by false false false e = refl
+  pub kind-miss : hitKind r a l ≡ hits.Miss → dirtiedIn (judged r l a) ≡ true
+  unfolding decision judged hitKind
+  kind-miss e = miss-by (flagFails r l) (alignmentFails r a l) (permissionFails r a l) e
 
-  pub passed-decision : hitKind r a l ≡ hits.Success → passing r a l n .result ≡ decision r a l n .result
+  pub kind-fault : (kind : FaultKind) → hitKind r a l ≡ hits.Fault kind → decision r a l 0 ≡ failing l 0 kind
   unfolding decision hitKind
-  passed-decision e = passed-by (flagFails r l) (alignmentFails r a l) (permissionFails r a l) e
+  kind-fault kind e = fault-by (flagFails r l) (alignmentFails r a l) (permissionFails r a l) kind e

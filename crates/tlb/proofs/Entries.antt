@@ -13,21 +13,21 @@ use Rattle.vmsa.specs.Answers.{dirtiedIn}
 use Rattle.vmsa.specs.declared.Regime.{Regime}
 use Rattle.vmsa.specs.declared.Access.{Access}
 use Rattle.vmsa.specs.declared.Leaf.{Leaf}
-use Rattle.decision.specs.Decision.{decision, hitKind}
+use Rattle.vmsa.specs.declared.FaultKind.{FaultKind}
+use Rattle.decision.specs.Decision.{Decision, failing, decision, hitKind}
+use Rattle.decision.specs.declared.HitKind.{HitKind}
+use Rattle.decision.specs.declared.HitKind.the-variants as hits
 use Rattle.tlb.specs.declared.Entry.{Entry as EntryStruct}
 use Rattle.tlb.specs.Replies.{Reply, answered, replyOf}
 use Rattle.tlb.specs.Walker.{Entry, empty, holds, heldIn, Walked, walked, accessHeld}
 use Rattle.tlb.specs.Ours.{judged, ours}
-use Rattle.tlb.specs.Entries.{entryView, fullEntry, answerOf, entryAnswer, hitKindIn, isHit}
-use Rattle.tlb.proofs.Deciding.{reply-decision, kind-decision}
+use Rattle.tlb.specs.Entries.{entryView, fullEntry, answerOf, entryAnswer, kindOf, entryKind, leafIn}
+use Rattle.tlb.proofs.Deciding.{reply-decision, kind-success, kind-miss, kind-fault}
 
 -- ---- what an entry holds of a page
 
 abbrev stands : EntryStruct → Bool
 stands e = flag (e .held) && leb (e .left) 3
-
-abbrev pub leafIn : EntryStruct → Leaf
-leafIn e = record { value = e .value; left = e .left; tables = e .tables }
 
 pub held-match : (e : EntryStruct) (page : ℕ) → stands e ≡ true → e .page ≡ page → some (leafIn e) ≡ heldIn (entryView e) page
 held-match e page h q = rw (h, eq-eqb (e .page) page q)
@@ -96,20 +96,6 @@ kept-view page leaf h = rw (le-leb (leaf .left) 3 h)
 -- ---- an entry that answers
 
 module _ (r : Regime) (a : Access) (e : EntryStruct) where
-  hit-leaf : (h : Leaf) → isHit (hitKindIn (pick (dirtiedIn (judged r h a)) none (some (answered (judged r h a) 0)))) ≡ true
-      → some (replyOf (decision r a h 0 .result)) ≡ pick (dirtiedIn (judged r h a)) none (some (answered (judged r h a) 0))
-  hit-leaf h t = by (dirtiedIn (judged r h a)) t
-    where
-      by : (b : Bool) → isHit (hitKindIn (pick b none (some (answered (judged r h a) 0)))) ≡ true → some (replyOf (decision r a h 0 .result)) ≡ pick b none (some (answered (judged r h a) 0))
-      by true t = clash (cc)
-      by false t = ap (λ (o : Reply). some o) (reply-decision r a h 0)
-
-  hit-held : (x : Option Leaf) → (h : Leaf) → ((l : Leaf) → x ≡ some l → l ≡ h) → isHit (hitKindIn (answerOf ours r a x)) ≡ true
-      → (some (replyOf (decision r a h 0 .result)) ≡ answerOf ours r a x) × (hitKind r a h ≡ hitKindIn (answerOf ours r a x))
-  hit-held none h q t = clash (cc)
-  hit-held (some l) h q t =
-      subst (λ (y : Leaf). (some (replyOf (decision r a y 0 .result)) ≡ answerOf ours r a (some l)) × (hitKind r a y ≡ hitKindIn (answerOf ours r a (some l)))) (q l refl) (hit-leaf l t, kind-decision r a l 0)
-
   -- the leaf that an entry holds is its own, and stands at a level
   own-leaf : (l : Leaf) → heldIn (entryView e) (ours .page r a) ≡ some l → l ≡ leafIn e
   own-leaf l q = by (stands e) q
@@ -122,14 +108,43 @@ module _ (r : Regime) (a : Access) (e : EntryStruct) where
       by true q = same (eqb (e .page) (ours .page r a)) q
       by false q = clash (cc)
 
-  hit-low-by : (x : Option Leaf) → heldIn (entryView e) (ours .page r a) ≡ x → isHit (hitKindIn (answerOf ours r a x)) ≡ true → e .left ≤ 3
-  hit-low-by none q t = clash (cc)
-  hit-low-by (some l) q t = subst (λ (y : Leaf). y .left ≤ 3) (own-leaf l q) (held-low e (ours .page r a) l q)
+  -- it answers by its leaf: steps 6 to 8 on it have this kind, and their answer, where it is one, is the entry's
+  pub record Answers (kind : HitKind) : Type 0 where
+    pub low : e .left ≤ 3
+    pub same : hitKind r a (leafIn e) ≡ kind
+    pub answer : dirtiedIn (judged r (leafIn e) a) ≡ false → some (replyOf (decision r a (leafIn e) 0 .result)) ≡ entryAnswer ours r a (entryView e)
 
-  pub hit-low : isHit (hitKindIn (entryAnswer ours r a (entryView e))) ≡ true → e .left ≤ 3
-  hit-low t = hit-low-by (heldIn (entryView e) (ours .page r a)) refl t
+  answers : (l : Leaf) (kind : HitKind) → heldIn (entryView e) (ours .page r a) ≡ some l → hitKind r a l ≡ kind → Answers kind
+  answers l kind q h =
+      let own = own-leaf l q in
+      record {
+        low = subst (λ (y : Leaf). y .left ≤ 3) own (held-low e (ours .page r a) l q);
+        same = subst (λ (y : Leaf). hitKind r a y ≡ kind) own h;
+        answer = λ d. ap (λ (o : Reply). some o) (reply-decision r a (leafIn e) 0) ∙ answer-held r a (entryView e) (leafIn e) (q ∙ ap (λ (y : Leaf). some y) own) d;
+      }
 
-  -- its answer is that of steps 6 to 8 on its leaf, and so is its kind
-  pub hit-answer : isHit (hitKindIn (entryAnswer ours r a (entryView e))) ≡ true
-      → (some (replyOf (decision r a (leafIn e) 0 .result)) ≡ entryAnswer ours r a (entryView e)) × (hitKind r a (leafIn e) ≡ hitKindIn (entryAnswer ours r a (entryView e)))
-  hit-answer t = hit-held (heldIn (entryView e) (ours .page r a)) (leafIn e) own-leaf t
+  pub kind-answers : (kind : HitKind) → (hits.Miss ≡ kind → ⊥) → entryKind r a (entryView e) ≡ kind → Answers kind
+  kind-answers kind other h = by (heldIn (entryView e) (ours .page r a)) refl h
+    where
+      by : (x : Option Leaf) → heldIn (entryView e) (ours .page r a) ≡ x → kindOf r a x ≡ kind → Answers kind
+      by none q h = absurd (other h)
+      by (some l) q h = answers l kind q h
+
+  pub success-answers : entryKind r a (entryView e) ≡ hits.Success → Answers hits.Success × (some (replyOf (decision r a (leafIn e) 0 .result)) ≡ entryAnswer ours r a (entryView e))
+  success-answers h =
+      let x = kind-answers hits.Success (λ q. clash (cc)) h in
+      (x, x .answer (kind-success r a (leafIn e) (x .same)))
+
+  pub fault-answers : (kind : FaultKind) → entryKind r a (entryView e) ≡ hits.Fault kind → (e .left ≤ 3) × (some (replyOf (failing (leafIn e) 0 kind .result)) ≡ entryAnswer ours r a (entryView e))
+  unfolding judged failing
+  fault-answers kind h =
+      let x = kind-answers (hits.Fault kind) (λ q. clash (cc)) h in
+      let f = kind-fault r a (leafIn e) kind (x .same) in
+      (x .low, ap (λ (d : Decision). some (replyOf (d .result))) (sym f) ∙ x .answer (ap (λ (d : Decision). dirtiedIn (d .result)) f))
+
+  pub miss-answers : entryKind r a (entryView e) ≡ hits.Miss → none ≡ entryAnswer ours r a (entryView e)
+  miss-answers h = by (heldIn (entryView e) (ours .page r a)) refl h
+    where
+      by : (x : Option Leaf) → heldIn (entryView e) (ours .page r a) ≡ x → kindOf r a x ≡ hits.Miss → none ≡ entryAnswer ours r a (entryView e)
+      by none q h = answer-none r a (entryView e) q
+      by (some l) q h = answer-dirty r a (entryView e) l q (kind-miss r a l h)

@@ -1,5 +1,5 @@
 -- The session's walk past the checks is the plain walk over the pool; the checks of its calls are the rows of RULES 5.
-use Prim.Native.Nat.{ℕ, zero, suc, _+_, _-_, _*_, _/_, _%_, _≤_}
+use Prim.Native.Nat.{ℕ, zero, suc, _+_, _-_, _*_, _/_, _%_, _≤_, _^_}
 use mathlib.Core.Bool.{Bool, true, false, not, _||_}
 use mathlib.Core.List.{List, [], _∷_, _++_}
 use mathlib.Core.Option.{Option, none, some}
@@ -14,7 +14,8 @@ use Rattle.descriptor.specs.Bytes.{bytesOf, put}
 use Rattle.descriptor.specs.Bits.{pick}
 use Rattle.descriptor.proofs.Laws.{length-bytes, put-part}
 use Rattle.descriptor.proofs.Tests.{or-false}
-use Rattle.vmsa.specs.Limits.{pageBits, Sized}
+use Rattle.vmsa.specs.Limits.{Sized}
+use Rattle.vmsa.specs.Granules.{pageBitsOf}
 use Rattle.geometry.specs.Geometry.{pageSize, pageOf}
 use Rattle.vmsa.specs.Answers.{Result, cacheableIn}
 use Rattle.vmsa.specs.declared.Regime.{Regime}
@@ -24,7 +25,7 @@ use Rattle.vmsa.specs.declared.Refusal.{Refusal}
 use Rattle.checks.specs.declared.Checked.{Checked}
 use Rattle.checks.specs.declared.Checked.the-variants.{Accepted, Refused}
 use Rattle.refusals.specs.Tests.{sizesBad, rootBad, rootsBad}
-use Rattle.checks.specs.Order.{firstBefore, firstOf}
+use Rattle.checks.specs.Order.{firstBefore, firstOf, andThen}
 use Rattle.checks.proofs.Accept.{sized, Rooted, rooted}
 use Rattle.lookup.specs.Trace.{End, fault, leaf, Trace}
 use Rattle.lookup.specs.Steps.{rangeOf}
@@ -34,34 +35,20 @@ use Rattle.walk.specs.Walk.{Outcome, poolBytes, withPoolBytes, applied, conclud
 use Rattle.walk.proofs.Parts.{with-own, with-put, length-part}
 use Rattle.walk.proofs.Ends.{root-aligned, found}
 use Rattle.tlb.specs.Replies.{Reply, answered, replyOf, updates}
-use Rattle.tlb.specs.Walker.{Spot, lost, found as foundAt, Walked, andThen, putWord, landed, walkFrom, walked}
+use Rattle.tlb.specs.Walker.{Spot, lost, found as foundAt, Walked, putWord, landed, walkFrom, walked}
 use Rattle.tlb.specs.Ours.{usable, offsetOf, spotAt, spotOf, located, judged, stamped, ours}
 use Rattle.tlb.proofs.Deciding.{reply-decision, update-decision, value-decision, cache-decision}
-
--- ---- checks one after another
-
-pub first-append : (xs ys : List (Bool × Refusal)) → firstOf (xs ++ ys) ≡ andThen (firstOf xs) (firstOf ys)
-first-append [] ys = refl
-first-append (row ∷ xs) ys = by (row .0) (first-append xs ys)
-  where
-    by : (b : Bool) → firstOf (xs ++ ys) ≡ andThen (firstOf xs) (firstOf ys) → pick b (Refused (row .1)) (firstOf (xs ++ ys)) ≡ andThen (pick b (Refused (row .1)) (firstOf xs)) (firstOf ys)
-    by true e = refl
-    by false e = e
-
-pub both : (x y : Checked) → andThen x y ≡ Accepted → (x ≡ Accepted) × (y ≡ Accepted)
-both Accepted y q = (refl, q)
-both (Refused x) y q = (cc, cc)
 
 -- ---- a usable regime
 
 pub usable-sized : (r : Regime) → usable r ≡ true → Sized r
 usable-sized r e = sized r (or-false (sizesBad r) (rootsBad r) (not-true (sizesBad r || rootsBad r) e) .0)
 
-rooted-by : (r : Regime) → rootsBad r ≡ false → Rooted (r .range0 .root .0) × Rooted (r .range1 .root .0)
+rooted-by : (r : Regime) → rootsBad r ≡ false → Rooted (pageBitsOf r) (r .range0 .root .0) × Rooted (pageBitsOf r) (r .range1 .root .0)
 unfolding rootsBad
 rooted-by r e =
-    let s = or-false (rootBad (r .range0 .root .0)) (rootBad (r .range1 .root .0)) e in
-    (rooted (r .range0 .root .0) (s .0), rooted (r .range1 .root .0) (s .1))
+    let s = or-false (rootBad (pageBitsOf r) (r .range0 .root .0)) (rootBad (pageBitsOf r) (r .range1 .root .0)) e in
+    (rooted (pageBitsOf r) (r .range0 .root .0) (s .0), rooted (pageBitsOf r) (r .range1 .root .0) (s .1))
 
 pub usable-root : (r : Regime) (address : ℕ) → usable r ≡ true → rangeOf r address .root .0 % 8 ≡ 0
 usable-root r address e =
@@ -70,13 +57,13 @@ usable-root r address e =
 
 -- ---- the page's first address stands for every address of the page
 
-page-start : (address : ℕ) → pageOf pageBits (pageOf pageBits address * pageSize pageBits) ≡ pageOf pageBits address
+page-start : (p address : ℕ) → pageOf p (pageOf p address * pageSize p) ≡ pageOf p address
 unfolding pageOf pageSize
-page-start address = mul-div-cancel (address / 4096) (pow-pos 12)
+page-start p address = mul-div-cancel (address / 2 ^ p) (pow-pos p)
 
-pub traced-page : (r : Regime) (pool : List ℕ) (address : ℕ) → Sized r → traced r pool (pageOf pageBits address * pageSize pageBits) ≡ traced r pool address
+pub traced-page : (r : Regime) (pool : List ℕ) (address : ℕ) → Sized r → traced r pool (pageOf (pageBitsOf r) address * pageSize (pageBitsOf r)) ≡ traced r pool address
 unfolding traced
-traced-page r pool address z = locate-page r _ (pageOf pageBits address * pageSize pageBits) address z (page-start address)
+traced-page r pool address z = locate-page r _ (pageOf (pageBitsOf r) address * pageSize (pageBitsOf r)) address z (page-start (pageBitsOf r) address)
 
 -- ---- a descriptor put into the memory
 

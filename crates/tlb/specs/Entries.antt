@@ -5,10 +5,10 @@ use mathlib.Core.List.{List}
 use mathlib.Core.Option.{Option, none, some}
 use lib.Dec.{leb}
 use Rattle.descriptor.specs.Bits.{pick}
-use Rattle.vmsa.specs.Limits.{pageBits}
+use Rattle.vmsa.specs.Granules.{pageBitsOf}
 use Rattle.geometry.specs.Geometry.{pageOf}
 use Rattle.vmsa.specs.Words.{flag, regimeOf}
-use Rattle.vmsa.specs.Answers.{Result, success, fault, refused as refusedWith, view, dirtiedIn}
+use Rattle.vmsa.specs.Answers.{numberOf, view, dirtiedIn}
 use Rattle.vmsa.specs.declared.RegimeWords.{RegimeWords}
 use Rattle.vmsa.specs.declared.Regime.{Regime}
 use Rattle.vmsa.specs.declared.Access.{Access}
@@ -16,6 +16,7 @@ use Rattle.vmsa.specs.declared.Leaf.{Leaf}
 use Rattle.checks.specs.declared.Checked.{Checked}
 use Rattle.checks.specs.declared.Checked.the-variants.{Accepted, Refused}
 use Rattle.checks.specs.Order.{sessionAccessCheck}
+use Rattle.decision.specs.Decision.{hitKind}
 use Rattle.decision.specs.declared.HitKind.{HitKind}
 use Rattle.decision.specs.declared.HitKind.the-variants as hits
 use Rattle.walk.specs.declared.Walked.{Walked as WalkedStruct}
@@ -26,7 +27,7 @@ use Rattle.tlb.specs.declared.Held.the-variants as held
 use Rattle.tlb.specs.declared.Asked.{Asked}
 use Rattle.tlb.specs.declared.Asked.the-variants as asked
 use Rattle.tlb.specs.Replies.{Reply, done, refused, answered, replyOf}
-use Rattle.tlb.specs.Walker.{Walker, Entry, empty, holds, entryOf, heldIn, Walked, accessIn}
+use Rattle.tlb.specs.Walker.{Walker, noRegime, Entry, empty, holds, entryOf, heldIn, Walked, accessIn}
 use Rattle.tlb.specs.Ours.{ours}
 
 -- an entry that is not held, or whose leaf stands at no level, is empty
@@ -44,12 +45,12 @@ fullEntry page leaf = record { page = page; value = leaf .value; left = leaf .le
 abbrev pub regimeIn : RegimeWords → ℕ → Option Regime
 regimeIn regime set = pick (flag set) (some (regimeOf regime)) none
 
--- the page of an access, and the number of its entry
-abbrev pub pageFor : Access → ℕ
-pageFor a = pageOf pageBits (a .address .0)
+-- the page of an access under a regime, and the number of its entry
+abbrev pub pageFor : Regime → Access → ℕ
+pageFor r a = pageOf (pageBitsOf r) (a .address .0)
 
-abbrev pub entryFor : Access → ℕ
-entryFor a = entryOf (pageFor a)
+abbrev pub entryFor : Regime → Access → ℕ
+entryFor r a = entryOf (pageFor r a)
 
 -- what an entry holds of a page, as the code says it
 abbrev pub heldLeaf : Held → Option Leaf
@@ -76,12 +77,12 @@ pub record Filling (A : Type 0) : Type 0 where
 abbrev pub filling : {A : Type 0} → EntryStruct → List ℕ → A → Filling A
 filling e m reply = record { entry = e; memory = m; reply = reply }
 
-abbrev pub filledBy : EntryStruct → Access → Walked → Filling Reply
-filledBy e a w = filling (keptEntry e (pageFor a) (w .kept)) (w .memory) (w .reply)
+abbrev pub filledBy : EntryStruct → Regime → Access → Walked → Filling Reply
+filledBy e r a w = filling (keptEntry e (pageFor r a) (w .kept)) (w .memory) (w .reply)
 
 -- under the regime of a session, where it is set
 abbrev pub accessedEntry : RegimeWords → ℕ → EntryStruct → List ℕ → Access → Filling Reply
-accessedEntry regime set e m a = filledBy e a (accessIn ours (regimeIn regime set) m a (entryView e))
+accessedEntry regime set e m a = filledBy e (regimeOf regime) a (accessIn ours (regimeIn regime set) m a (entryView e))
 
 -- ---- what an entry answers by itself
 
@@ -97,28 +98,23 @@ abbrev pub askedReply : Asked → Option Reply
 askedReply (asked.Answered x) = some (replyOf (view x))
 askedReply asked.Walk = none
 
--- over n bytes of memory: nothing where the call is refused, or walks
+-- over n bytes of memory: what a session says at once, a refusal or what the entry answers; nothing where the access walks
 abbrev pub checkedReply : Checked → Option Reply → Option Reply
 checkedReply Accepted x = x
-checkedReply (Refused why) x = none
+checkedReply (Refused why) x = some (refused (numberOf why))
 
 abbrev pub entryReply : ℕ → Access → Entry → Option Regime → Option Reply
-entryReply n a e none = none
-entryReply n a e (some r) = checkedReply (sessionAccessCheck n (r .pool) a) (entryAnswer ours r a e)
+entryReply n a e none = some (refused noRegime)
+entryReply n a e (some r) = checkedReply (sessionAccessCheck n r a) (entryAnswer ours r a e)
 
--- the kind of a hit, from what an entry answers: a success, a fault, or nothing, which is a miss; an entry answers nothing else
-abbrev pub hitKindOf : Result → HitKind
-hitKindOf (success s) = hits.Success
-hitKindOf (fault f) = hits.Fault
-hitKindOf (refusedWith n) = hits.Fault
+-- how an entry answers: as steps 6 to 8 do on the leaf that it holds of the page; one of another page misses
+abbrev pub kindOf : Regime → Access → Option Leaf → HitKind
+kindOf r a none = hits.Miss
+kindOf r a (some h) = hitKind r a h
 
-abbrev pub hitKindIn : Option Reply → HitKind
-hitKindIn none = hits.Miss
-hitKindIn (some done) = hits.Fault
-hitKindIn (some (refused n)) = hits.Fault
-hitKindIn (some (answered o n)) = hitKindOf o
+abbrev pub entryKind : Regime → Access → Entry → HitKind
+entryKind r a e = kindOf r a (heldIn e (ours .page r a))
 
-abbrev pub isHit : HitKind → Bool
-isHit hits.Success = true
-isHit hits.Fault = true
-isHit hits.Miss = false
+-- the leaf in an entry
+abbrev pub leafIn : EntryStruct → Leaf
+leafIn e = record { value = e .value; left = e .left; tables = e .tables }

@@ -3,7 +3,7 @@ use Prim.Native.Nat.{ℕ, _+_, _-_, _*_}
 use mathlib.Core.List.{List}
 use lib.ListN.{length}
 use Rattle.descriptor.specs.Bytes.{bytesOf}
-use Rattle.vmsa.specs.Limits.{pageBits}
+use Rattle.vmsa.specs.Granules.{pageBitsOf}
 use Rattle.geometry.specs.Geometry.{pageSize, pageOf}
 use Rattle.vmsa.specs.Answers.{Result, success, fault as faultWith, refused, codeOf, dirtiedIn}
 use mathlib.Core.Bool.{Bool, true, false, not, _||_}
@@ -38,7 +38,7 @@ usable r = not (sizesBad r || rootsBad r)
 
 -- steps 1 to 5 (RULES 6) of a page, by its first address
 unfoldable pub located : Regime → List ℕ → ℕ → Spot
-located r m page = pick (usable r) (spotOf r (traced r (poolBytes (r .pool) m) (page * pageSize pageBits))) (lost (codeOf Translation 0) 0 0)
+located r m page = pick (usable r) (spotOf r (traced r (poolBytes (r .pool) m) (page * pageSize (pageBitsOf r)))) (lost (codeOf Translation 0) 0 0)
 
 -- steps 6 to 8 of a leaf
 unfoldable pub judged : Regime → Leaf → Access → Result
@@ -56,13 +56,13 @@ stamped o v = updated (accessedIn o) (dirtiedIn o) v
 abbrev pub ours : Walker
 ours =
     record {
-      memoryCheck = λ (r : Regime) (n : ℕ). firstOf (memoryRows n (r .pool));
+      memoryCheck = λ (r : Regime) (n : ℕ). firstOf (memoryRows n r);
       settingCheck = λ (r : Regime). firstOf (settingRows r);
-      accessCheck = λ (a : Access). firstOf (accessRows a);
+      accessCheck = λ (r : Regime) (a : Access). firstOf (accessRows r a);
       storeCheck = λ (r : Regime) (address : ℕ). firstOf (storeRows (r .pool) address);
       offset = offsetOf;
       word = λ (r : Regime) (v : ℕ). bytesOf (r .ee) v;
-      page = λ (r : Regime) (a : Access). pageOf pageBits (a .address .0);
+      page = λ (r : Regime) (a : Access). pageOf (pageBitsOf r) (a .address .0);
       plain = walk;
       locate = located;
       judge = judged;

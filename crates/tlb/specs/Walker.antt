@@ -13,6 +13,7 @@ use Rattle.vmsa.specs.declared.Leaf.{Leaf}
 use Rattle.vmsa.specs.declared.Refusal.the-variants.{NoRegime}
 use Rattle.checks.specs.declared.Checked.{Checked}
 use Rattle.checks.specs.declared.Checked.the-variants.{Accepted, Refused}
+use Rattle.checks.specs.Order.{andThen}
 use Rattle.walk.specs.Walk.{Outcome, revalued}
 use Rattle.tlb.specs.Replies.{Reply, refused, answered, updates}
 
@@ -24,15 +25,15 @@ pub data Spot : Type 0 where
 -- ---- the walker that a session stands on
 
 pub record Walker : Type 0 where
-  -- the checks: row 1 over n bytes of memory; the other rows of a regime; those of an access; that of a store
+  -- the checks: row 1 over n bytes of memory; the other rows of a regime; those of an access under a regime; that of a store
   pub memoryCheck : Regime → ℕ → Checked
   pub settingCheck : Regime → Checked
-  pub accessCheck : Access → Checked
+  pub accessCheck : Regime → Access → Checked
   pub storeCheck : Regime → ℕ → Checked
   -- where a physical address lies in the memory, and the bytes of a descriptor in the byte order of the regime
   pub offset : Regime → ℕ → ℕ
   pub word : Regime → ℕ → List ℕ
-  -- the page of an access: address bits 63..12
+  -- the page of an access: its address bits from the granule's page bits up
   pub page : Regime → Access → ℕ
   -- the plain walk of rule 2
   pub plain : Regime → Access → List ℕ → Outcome
@@ -40,11 +41,6 @@ pub record Walker : Type 0 where
   pub locate : Regime → List ℕ → ℕ → Spot
   pub judge : Regime → Leaf → Access → Result
   pub stamp : Result → ℕ → ℕ
-
--- one check, and then another
-abbrev pub andThen : Checked → Checked → Checked
-andThen Accepted next = next
-andThen (Refused x) next = Refused x
 
 -- refusal 9: a session has no regime yet
 abbrev pub noRegime : ℕ
@@ -119,7 +115,7 @@ module _ (W : Walker) where
 
   -- under a regime, by the leaf held of its page
   abbrev pub accessUnder : Regime → List ℕ → Access → Option Leaf → Walked
-  accessUnder R m a h = accessBy R m a h (andThen (memoryCheck R (length m)) (accessCheck a))
+  accessUnder R m a h = accessBy R m a h (andThen (memoryCheck R (length m)) (accessCheck R a))
 
   -- under the regime of a session, if it has one, by its page's entry
   abbrev pub accessIn : Option Regime → List ℕ → Access → Entry → Walked

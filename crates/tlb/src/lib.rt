@@ -4,11 +4,13 @@ ghost use mathlib.Core.Option.{some};
 ghost use Prim.Native.Nat.{_+_, _≤_, _<_};
 ghost use lib.ListN.{length};
 ghost use Rattle.vmsa.specs.Answers.{view};
+ghost use Rattle.vmsa.specs.Words.{regimeOf};
+ghost use Rattle.decision.specs.Decision.{failing};
 ghost use Rattle.walk.specs.Walk.{keptLeaf};
 ghost use Rattle.tlb.specs.Replies.{replyOf};
 ghost use Rattle.tlb.specs.Walker.{entryCount, heldIn, walked as walkedOf, accessHeld};
 ghost use Rattle.tlb.specs.Ours.{usable as usableOf, ours};
-ghost use Rattle.tlb.specs.Entries.{noEntry, entryView, regimeIn, entryFor, heldLeaf, walkedView, keptEntry, filling, filledBy, accessedEntry, entryAnswer, askedReply, entryReply, hitKindIn};
+ghost use Rattle.tlb.specs.Entries.{noEntry, entryView, pageFor, entryFor, heldLeaf, walkedView, keptEntry, filling, filledBy, accessedEntry, entryAnswer, askedReply, leafIn, entryKind};
 use checks::Checked;
 use decision::HitKind;
 use vmsa::Access;
@@ -93,7 +95,7 @@ impl Entry {
         requires { ⌜ 0 < a .size ⌝ }
         ensures { λ x. ⌜ askedReply x ≡ entryAnswer ours r a (entryView self) ⌝ }
     {
-        let page = geometry::page_of(vmsa::PAGE_BITS, a.address);
+        let page = page_of(r, a);
         let Held::Leaf(leaf) = self.held_of(page) else {
             return Asked::Walk;
         };
@@ -108,31 +110,31 @@ impl Entry {
     // How it answers an access: one of another page, or one that would make the page dirty, misses.
     pub fn hit_kind(self, r: Regime, a: Access) -> HitKind
         requires { ⌜ 0 < a .size ⌝ }
-        ensures { λ s. ⌜ s ≡ hitKindIn (entryAnswer ours r a (entryView self)) ⌝ }
+        ensures { λ s. ⌜ s ≡ entryKind r a (entryView self) ⌝ }
     {
-        let page = geometry::page_of(vmsa::PAGE_BITS, a.address);
+        let page = page_of(r, a);
         let Held::Leaf(leaf) = self.held_of(page) else {
             return HitKind::Miss;
         };
         decision::hit_kind(r, a, leaf)
     }
 
-    // The fault that it answers with, where it does.
-    pub fn fault(self, r: Regime, a: Access) -> Fault
-        requires { ⌜ (0 < a .size) × (hitKindIn (entryAnswer ours r a (entryView self)) ≡ HitKind.Fault) ⌝ }
-        ensures { λ f. ⌜ some (replyOf (view (Answer.Fault f))) ≡ entryAnswer ours r a (entryView self) ⌝ }
+    // The fault of this kind at its leaf.
+    pub fn fault(self, kind: FaultKind) -> Fault
+        requires { ⌜ self .left ≤ 3 ⌝ }
+        ensures { λ f. ⌜ view (Answer.Fault f) ≡ failing (leafIn self) 0 kind .result ⌝ }
     {
         let leaf = Leaf {
             value: self.value,
             left: self.left,
             tables: self.tables,
         };
-        decision::fault(r, a, leaf, 0)
+        decision::fault(leaf, 0, kind)
     }
 
     // The success that it answers with, where it does.
     pub fn success(self, r: Regime, a: Access) -> Success
-        requires { ⌜ hitKindIn (entryAnswer ours r a (entryView self)) ≡ HitKind.Success ⌝ }
+        requires { ⌜ entryKind r a (entryView self) ≡ HitKind.Success ⌝ }
         ensures { λ s. ⌜ some (replyOf (view (Answer.Success s))) ≡ entryAnswer ours r a (entryView self) ⌝ }
     {
         let leaf = Leaf {
@@ -140,7 +142,7 @@ impl Entry {
             left: self.left,
             tables: self.tables,
         };
-        decision::success(r, a, leaf, 0)
+        decision::hit_success(r, a, leaf)
     }
 
     // The entry with a leaf that may be remembered of a page.
@@ -190,27 +192,43 @@ pub fn miss(memory: &mut [u8], r: Regime, a: Access) -> walk::Walked
     }
 }
 
-// The number of the entry of an access's page.
-pub fn entry_of(a: Access) -> usize
-    ensures { λ i. ⌜ (i ≡ entryFor a) × (i < entryCount) ⌝ }
+// The page of an access: its address bits from the granule's page bits up.
+fn page_of(r: Regime, a: Access) -> u64
+    ensures { λ p. ⌜ p ≡ pageFor r a ⌝ }
 {
-    (geometry::page_of(vmsa::PAGE_BITS, a.address) as usize) % ENTRIES
+    let granule = r.granule;
+    geometry::page_of(granule.page_bits(), a.address)
 }
 
-// An access past its checks: its page's entry answers, or else the walk, whose leaf is kept.
+// The number of the entry of an access's page, in a session with this regime.
+pub fn entry_of(regime: RegimeWords, a: Access) -> usize
+    ensures { λ i. ⌜ (i ≡ entryFor (regimeOf regime) a) × (i < entryCount) ⌝ }
+{
+    (page_of(regime.regime(), a) as usize) % ENTRIES
+}
+
+// An access that walks: its answer, and its page's entry with the walk's leaf kept.
+pub fn walk_entry(entry: Entry, memory: &mut [u8], r: Regime, a: Access) -> Filled
+    requires { ⌜ (r .pool .start + r .pool .length ≤ length (now memory)) × (0 < a .size) ⌝ }
+    ensures { λ x. ⌜ filling (x .entry) (now (memory .exit)) (replyOf (view (x .answer))) ≡ filledBy entry r a (walkedOf ours r (now (memory .entry)) a) ⌝ }
+{
+    let missed = miss(memory, r, a);
+    let kept = missed.kept;
+    let answer = missed.answer;
+    let page = page_of(r, a);
+    Filled {
+        entry: entry.keep(page, kept),
+        answer: answer,
+    }
+}
+
+// An access past its checks: its page's entry answers, or else the walk.
 fn answer_entry(entry: Entry, memory: &mut [u8], r: Regime, a: Access) -> Filled
     requires { ⌜ (r .pool .start + r .pool .length ≤ length (now memory)) × (0 < a .size) ⌝ }
-    ensures { λ x. ⌜ filling (x .entry) (now (memory .exit)) (replyOf (view (x .answer))) ≡ filledBy entry a (accessHeld ours r (now (memory .entry)) a (heldIn (entryView entry) (ours .page r a))) ⌝ }
+    ensures { λ x. ⌜ filling (x .entry) (now (memory .exit)) (replyOf (view (x .answer))) ≡ filledBy entry r a (accessHeld ours r (now (memory .entry)) a (heldIn (entryView entry) (ours .page r a))) ⌝ }
 {
     let Asked::Answered(answer) = entry.ask(r, a) else {
-        let missed = miss(memory, r, a);
-        let kept = missed.kept;
-        let answer = missed.answer;
-        let page = geometry::page_of(vmsa::PAGE_BITS, a.address);
-        return Filled {
-            entry: entry.keep(page, kept),
-            answer: answer,
-        };
+        return walk_entry(entry, memory, r, a);
     };
     Filled {
         entry: entry,
@@ -235,25 +253,11 @@ pub fn access_entry(
         };
     }
     let r = regime.regime();
-    match checks::check_session_access(memory.len(), r.pool, a) {
+    match checks::check_session_access(memory.len(), r, a) {
         Checked::Refused(refusal) => Filled {
             entry: entry,
             answer: Answer::Refused(refusal),
         },
         Checked::Accepted => answer_entry(entry, memory, r, a),
-    }
-}
-
-// How the entry answers an access in such a session, over n bytes of memory; one that is refused misses.
-pub fn hit_kind(regime: RegimeWords, set: u8, entry: Entry, n: usize, a: Access) -> HitKind
-    ensures { λ s. ⌜ s ≡ hitKindIn (entryReply n a (entryView entry) (regimeIn regime set)) ⌝ }
-{
-    if set == 0 {
-        return HitKind::Miss;
-    }
-    let r = regime.regime();
-    match checks::check_session_access(n, r.pool, a) {
-        Checked::Refused(_) => HitKind::Miss,
-        Checked::Accepted => entry.hit_kind(r, a),
     }
 }

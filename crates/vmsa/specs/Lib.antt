@@ -1,4 +1,5 @@
 pub mod Limits
+pub mod Granules
 pub mod Kinds
 pub mod Attributes
 pub mod Fields

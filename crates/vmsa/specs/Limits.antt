@@ -24,10 +24,6 @@ tszMost = 39
 abbrev pub outputMost : ℕ
 outputMost = 5
 
--- page bits of the 4 KiB granule (RULES 1)
-abbrev pub pageBits : ℕ
-pageBits = 12
-
 -- what row 3 leaves of a regime
 pub record Sized (r : Regime) : Type 0 where
   pub least0 : tszLeast ≤ r .range0 .tsz

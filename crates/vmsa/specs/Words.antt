@@ -1,8 +1,12 @@
 -- A regime as numbers (RULES 15.1).
 use Prim.Native.Nat.{ℕ}
 use mathlib.Core.Bool.{Bool, not}
+use mathlib.Core.List.{List, [], _∷_}
 use lib.Dec.{eqb}
+use lib.ListN.{getD}
 use Rattle.descriptor.specs.Bits.{pick}
+use Rattle.vmsa.specs.declared.Granule.{Granule}
+use Rattle.vmsa.specs.declared.Granule.the-variants.{Kib4, Kib16, Kib64}
 use Rattle.vmsa.specs.declared.Regime.{Regime}
 use Rattle.vmsa.specs.declared.RegimeWords.{RegimeWords}
 
@@ -12,6 +16,15 @@ flag b = not (eqb b 0)
 
 abbrev pub flagByte : Bool → ℕ
 flagByte b = pick b 1 0
+
+-- the number of a granule, as in Arm's field TG0; a number that is none of them is taken as 4 KiB
+abbrev pub granuleNumber : Granule → ℕ
+granuleNumber Kib4 = 0
+granuleNumber Kib64 = 1
+granuleNumber Kib16 = 2
+
+unfoldable pub granuleNumbered : ℕ → Granule
+granuleNumbered n = getD (Kib4 ∷ Kib64 ∷ Kib16 ∷ []) n Kib4
 
 unfoldable pub regimeOf : RegimeWords → Regime
 regimeOf w = record {
@@ -23,6 +36,7 @@ regimeOf w = record {
   hd = flag (w .hd);
   wxn = flag (w .wxn);
   ee = flag (w .ee);
+  granule = granuleNumbered (w .granule);
   attributes = w .attributes;
 }
 
@@ -45,6 +59,6 @@ regimeWords r = record {
   hpd0 = flagByte (r .range0 .hpd);
   hpd1 = flagByte (r .range1 .hpd);
   ee = flagByte (r .ee);
-  spare8 = 0;
+  granule = granuleNumber (r .granule);
   spare32 = 0;
 }

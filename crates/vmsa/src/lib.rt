@@ -4,8 +4,9 @@ ghost use Prim.Native.Nat.{_<_};
 ghost use Rattle.vmsa.specs.Kinds.{isFetch, isProbe, asksWrite, writes as writesOf};
 ghost use Rattle.vmsa.specs.Attributes.{attribute as attributeOf, device as deviceOf, normal as normalOf};
 ghost use Rattle.vmsa.specs.Answers.{numberOf, codeOf, view, cacheableIn, dirtiedIn};
-ghost use Rattle.vmsa.specs.Words.{flagByte, regimeOf, regimeWords};
-ghost use Rattle.vmsa.specs.Settings.{initial, withPool, withRange0, withRange1, withHpd0, withHpd1, withOutput, withHa, withHd, withWxn, withEe, withAttributes};
+ghost use Rattle.vmsa.specs.Granules.{pageBits, Paged};
+ghost use Rattle.vmsa.specs.Words.{flagByte, granuleNumber, granuleNumbered, regimeOf, regimeWords};
+ghost use Rattle.vmsa.specs.Settings.{initial, withPool, withRange0, withRange1, withHpd0, withHpd1, withOutput, withHa, withHd, withWxn, withEe, withGranule, withAttributes};
 
 // The limits of the pool, the memory and the regime; specs/Limits.antt has the same numbers.
 pub const MEMORY_LIMIT: usize = 16777216;
@@ -19,8 +20,6 @@ pub const TSZ_LEAST: u8 = 16;
 pub const TSZ_MOST: u8 = 39;
 
 pub const OUTPUT_MOST: u8 = 5;
-
-pub const PAGE_BITS: u8 = 12;
 
 // Bits of a leaf descriptor; specs/Fields.antt has the same numbers.
 pub const AP1: u8 = 6;
@@ -72,6 +71,13 @@ pub struct Range {
     pub hpd: bool,
 }
 
+// The translation granule: the size of a page and of a table.
+pub enum Granule {
+    Kib4,
+    Kib16,
+    Kib64,
+}
+
 // A translation regime: stage 1 of EL1&0. ee: its descriptors are big-endian.
 pub struct Regime {
     pub pool: Pool,
@@ -82,10 +88,11 @@ pub struct Regime {
     pub hd: bool,
     pub wxn: bool,
     pub ee: bool,
+    pub granule: Granule,
     pub attributes: u64,
 }
 
-// A regime as numbers, for where any bytes may stand: a flag is true where its byte is not 0. The spare ones have no say, and are 0 in what we return.
+// A regime as numbers, for where any bytes may stand: a flag is true where its byte is not 0; granule as in Arm's field TG0, 0 for 4, 1 for 64, 2 for 16 KiB, and any other number is taken as 4 KiB. The spare ones have no say, and are 0 in what we return.
 #[repr(C)]
 pub struct RegimeWords {
     pub start: usize,
@@ -105,7 +112,7 @@ pub struct RegimeWords {
     pub hpd0: u8,
     pub hpd1: u8,
     pub ee: u8,
-    pub spare8: u8,
+    pub granule: u8,
     pub spare32: u32,
 }
 
@@ -185,7 +192,7 @@ pub struct Leaf {
 }
 
 impl Regime {
-    // No pool yet, both ranges disabled, 48 bits of output, no updates, little-endian descriptors, Device memory only.
+    // No pool yet, both ranges disabled, 48 bits of output, no updates, little-endian descriptors, granules of 4 KiB, Device memory only.
     pub fn new() -> Self
         ensures { λ r. ⌜ r ≡ initial ⌝ }
     {
@@ -208,6 +215,7 @@ impl Regime {
             hd: false,
             wxn: false,
             ee: false,
+            granule: Granule::Kib4,
             attributes: 0,
         }
     }
@@ -282,6 +290,29 @@ impl Regime {
         self
     }
 
+    pub fn with_granule(mut self, granule: Granule) -> Self
+        ensures { λ r. ⌜ r ≡ withGranule self granule ⌝ }
+    {
+        // a field that is an enum is set with the struct made anew (DECISIONS 75)
+        let pool = self.pool;
+        let range0 = self.range0;
+        let range1 = self.range1;
+        let changed = Regime {
+            pool: pool,
+            range0: range0,
+            range1: range1,
+            output: self.output,
+            ha: self.ha,
+            hd: self.hd,
+            wxn: self.wxn,
+            ee: self.ee,
+            granule: granule,
+            attributes: self.attributes,
+        };
+        self = changed;
+        self
+    }
+
     pub fn with_attributes(mut self, attributes: u64) -> Self
         ensures { λ r. ⌜ r ≡ withAttributes self attributes ⌝ }
     {
@@ -295,6 +326,42 @@ pub fn flag_byte(b: bool) -> u8
     ensures { λ r. ⌜ r ≡ flagByte b ⌝ }
 {
     if b { 1 } else { 0 }
+}
+
+impl Granule {
+    // How many low bits of an address lie within a page.
+    pub fn page_bits(self) -> u8
+        ensures { λ p. ⌜ (p ≡ pageBits self) × Paged p ⌝ }
+    {
+        match self {
+            Granule::Kib4 => 12,
+            Granule::Kib16 => 14,
+            Granule::Kib64 => 16,
+        }
+    }
+
+    // Its number, as in Arm's field TG0.
+    fn number(self) -> u8
+        ensures { λ n. ⌜ n ≡ granuleNumber self ⌝ }
+    {
+        match self {
+            Granule::Kib4 => 0,
+            Granule::Kib64 => 1,
+            Granule::Kib16 => 2,
+        }
+    }
+
+    // The granule of a number; any other number is taken as 4 KiB.
+    fn numbered(n: u8) -> Self
+        ensures { λ g. ⌜ g ≡ granuleNumbered n ⌝ }
+    {
+        match n {
+            0 => Granule::Kib4,
+            1 => Granule::Kib64,
+            2 => Granule::Kib16,
+            _ => Granule::Kib4,
+        }
+    }
 }
 
 impl RegimeWords {
@@ -328,6 +395,7 @@ impl RegimeWords {
             .with_hd(self.hd != 0)
             .with_wxn(self.wxn != 0)
             .with_ee(self.ee != 0)
+            .with_granule(Granule::numbered(self.granule))
             .with_attributes(self.attributes)
     }
 
@@ -335,6 +403,7 @@ impl RegimeWords {
     pub fn of(r: Regime) -> Self
         ensures { λ w. ⌜ w ≡ regimeWords r ⌝ }
     {
+        let granule = r.granule;
         RegimeWords {
             start: r.pool.start,
             length: r.pool.length,
@@ -353,7 +422,7 @@ impl RegimeWords {
             hpd0: flag_byte(r.range0.hpd),
             hpd1: flag_byte(r.range1.hpd),
             ee: flag_byte(r.ee),
-            spare8: 0,
+            granule: granule.number(),
             spare32: 0,
         }
     }

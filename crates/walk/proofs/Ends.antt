@@ -13,7 +13,8 @@ use borrow.Author.Tests.{eqb-true, not-false}
 use Rattle.descriptor.proofs.Tests.{clash}
 use Rattle.descriptor.specs.Bytes.{put}
 use Rattle.descriptor.specs.Bits.{pick}
-use Rattle.vmsa.specs.Limits.{pageBits, Sized}
+use Rattle.vmsa.specs.Limits.{Sized}
+use Rattle.vmsa.specs.Granules.{pageBitsOf}
 use Rattle.geometry.specs.Geometry.{levelOf, pageSize, unaligned}
 use Rattle.geometry.proofs.Geometry.{paged}
 use Rattle.vmsa.specs.declared.Regime.{Regime}
@@ -118,20 +119,21 @@ module _ (r : Regime) (a : Access) (pool : List ℕ) (l : Located) (q : l ≡ sh
 
 -- ---- what acceptance gives the walk over the pool
 
-pub aligned-zero : (x : ℕ) → unaligned pageBits x ≡ false → x % pageSize pageBits ≡ 0
+aligned-zero : (p x : ℕ) → unaligned p x ≡ false → x % pageSize p ≡ 0
 unfolding unaligned
-aligned-zero x e = eqb-true (x % pageSize pageBits) 0 (not-false (eqb (x % pageSize pageBits) 0) e)
+aligned-zero p x e = eqb-true (x % pageSize p) 0 (not-false (eqb (x % pageSize p) 0) e)
 
-pub root-aligned : (r : Regime) (address : ℕ) → Rooted (r .range0 .root .0) → Rooted (r .range1 .root .0) → rangeOf r address .root .0 % 8 ≡ 0
+-- a multiple of the regime's granule is a multiple of 8
+pub multiple8 : (r : Regime) (x : ℕ) → unaligned (pageBitsOf r) x ≡ false → x % 8 ≡ 0
+multiple8 r x e = aligned8 (pageBitsOf r) x (paged (r .granule)) (aligned-zero (pageBitsOf r) x e)
+
+pub root-aligned : (r : Regime) (address : ℕ) → Rooted (pageBitsOf r) (r .range0 .root .0) → Rooted (pageBitsOf r) (r .range1 .root .0) → rangeOf r address .root .0 % 8 ≡ 0
 unfolding rangeOf
 root-aligned r address h k = by (upper address)
   where
-    even : (root : ℕ) → Rooted root → root % 8 ≡ 0
-    even root h = aligned8 pageBits root paged (aligned-zero root (h .aligned))
-
     by : (b : Bool) → pick b (r .range1) (r .range0) .root .0 % 8 ≡ 0
-    by true = even (r .range1 .root .0) k
-    by false = even (r .range0 .root .0) h
+    by true = multiple8 r (r .range1 .root .0) (k .aligned)
+    by false = multiple8 r (r .range0 .root .0) (h .aligned)
 
 pub record Ready (n : ℕ) (r : Regime) (a : Access) : Type 0 where
   pub fits : r .pool .start + r .pool .length ≤ n

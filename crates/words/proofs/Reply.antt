@@ -1,10 +1,10 @@
 -- A reply with its count apart, as numbers, is the answer as numbers; a hit is the access call; a refusal as a number says what a set regime does.
 use Prim.Native.Nat.{ℕ}
-use mathlib.Core.Bool.{true, false}
+use mathlib.Core.Bool.{true, false, not}
 use mathlib.Core.List.{List}
 use mathlib.Core.Option.{Option, none, some}
-use mathlib.Core.Path.{_≡_, refl, sym, ap, _∙_}
-use lib.Dec.{eqb}
+use mathlib.Core.Path.{_≡_, refl, sym, ap, subst, _∙_}
+use lib.Dec.{eqb, T}
 use lib.ListN.{length}
 use Rattle.descriptor.specs.Bits.{pick}
 use Rattle.descriptor.proofs.Tests.{clash}
@@ -18,13 +18,12 @@ use Rattle.vmsa.specs.declared.RegimeWords.{RegimeWords}
 use Rattle.checks.specs.declared.Checked.{Checked}
 use Rattle.checks.specs.declared.Checked.the-variants.{Accepted, Refused}
 use Rattle.checks.specs.Order.{regimeCheck}
-use Rattle.decision.specs.declared.HitKind.the-variants as hits
 use Rattle.tlb.specs.Replies.{Reply, done, refused as refusedWith, answered, Told, replyOf, replyTo}
 use Rattle.tlb.specs.Ours.{ours}
-use Rattle.tlb.specs.Entries.{entryView, regimeIn, entryFor, Filling, accessedEntry, entryReply, hitKindIn, isHit}
+use Rattle.tlb.specs.Entries.{entryView, regimeIn, Filling, accessedEntry, entryReply}
 use Rattle.session.specs.declared.Session.{Session as SessionStruct}
 use Rattle.session.specs.Model.{handed, setRegime, access, store, storeIn}
-use Rattle.session.specs.View.{setTo, setAfter, entryIn, withEntry, leaves}
+use Rattle.session.specs.View.{setTo, setAfter, numberIn, entryIn, withEntry, leaves}
 use Rattle.session.proofs.Calls.{set-leaves, hit-leaves, entry-leaves, store-leaves}
 use Rattle.words.specs.declared.AnswerWords.{AnswerWords}
 use Rattle.words.specs.declared.Hit.{Hit}
@@ -66,22 +65,19 @@ set-numbers m g x e s =
 
 -- ---- a hit
 
--- a reply is an answer
-is-hit : (reply : Reply) → isHit (hitKindIn (some reply)) ≡ true
-is-hit done = refl
-is-hit (refusedWith n) = refl
-is-hit (answered (success s) n) = refl
-is-hit (answered (fault f) n) = refl
-is-hit (answered (refused k) n) = refl
-
-pub no-hit : (x : Option Reply) (w : AnswerWords) → w ≡ wordsOf (refused 0) → hits.Miss ≡ hitKindIn x → record { hit = false; answer = w } ≡ hitOf x
+pub no-hit : (x : Option Reply) (w : AnswerWords) → w ≡ wordsOf (refused 0) → none ≡ x → record { hit = false; answer = w } ≡ hitOf x
 unfolding hitOf
-no-hit none w e q = rw e
-no-hit (some reply) w e q = let t = sym (is-hit reply) ∙ ap isHit (sym q) in clash (cc)
+no-hit x w e q = rw (← q, e)
 
 pub hit : (x : Option Reply) (o : Result) (w : AnswerWords) → w ≡ wordsOf o → some (replyOf o) ≡ x → record { hit = true; answer = w } ≡ hitOf x
 unfolding hitOf
 hit x o w e h = rw (← h, reply-words o, e)
+
+-- where there is none, no reply is given at once
+pub no-reply : (x : Option Reply) (h : Hit) → h ≡ hitOf x → T (not (h .hit)) → none ≡ x
+unfolding hitOf
+no-reply none h e z = refl
+no-reply (some reply) h e z = absurd (subst (λ (y : Hit). T (not (y .hit))) e z)
 
 -- a hit is the call of whatever session has the entry and the regime
 hit-by : (s : SessionStruct) (m : List ℕ) (a : Access) (x : Option Reply) → x ≡ entryReply (length m) a (entryView (entryIn s a)) (regimeIn (s .regime) (s .set)) → hitOf x .hit ≡ true
@@ -100,9 +96,9 @@ hit-numbers s m a h e t =
 
 -- the one entry of an access put where it lies
 pub entry-numbers : (s : SessionStruct) (m : List ℕ) (a : Access) (x : Filling AnswerWords) → x ≡ entryReplied (accessedEntry (s .regime) (s .set) (entryIn s a) m a)
-    → handed (withEntry s (entryFor a) (x .entry)) (x .memory) (x .reply) ≡ replied replyWords (leaves s m (access a))
+    → handed (withEntry s (numberIn s a) (x .entry)) (x .memory) (x .reply) ≡ replied replyWords (leaves s m (access a))
 entry-numbers s m a x e =
-    ap (λ (y : Filling AnswerWords). handed (withEntry s (entryFor a) (y .entry)) (y .memory) (y .reply)) e
+    ap (λ (y : Filling AnswerWords). handed (withEntry s (numberIn s a) (y .entry)) (y .memory) (y .reply)) e
     ∙ ap (replied replyWords) (entry-leaves s m a (accessedEntry (s .regime) (s .set) (entryIn s a) m a) refl)
 
 pub store-numbers : (s : SessionStruct) (m : List ℕ) (address value : ℕ) (t : Told ℕ) → t ≡ numbered (storeIn ours (regimeIn (s .regime) (s .set)) m address value)

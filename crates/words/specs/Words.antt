@@ -129,7 +129,7 @@ numbered t = told (refusalByte (t .reply)) (t .memory)
 abbrev pub setWords : ℕ → Regime → SetWords
 setWords n r = record { refusal = refusalByte (replyTo (regimeCheck n r)); regime = regimeWords r }
 
--- an entry's reply as numbers; where there is none, there is no hit
+-- a reply that is given at once, as numbers; where there is none, the access walks
 unfoldable pub hitOf : Option Reply → Hit
 hitOf none = record { hit = false; answer = wordsOf (refused 0) }
 hitOf (some reply) = record { hit = true; answer = replyWords reply }

@@ -1,12 +1,13 @@
 // An access and an answer as structs of numbers, and the calls of a monitor over them.
 ghost use mathlib.Core.Path.{_≡_};
-ghost use Prim.Native.Nat.{_<_};
+ghost use Prim.Native.Nat.{_+_, _≤_, _<_};
+ghost use lib.ListN.{length};
 ghost use Rattle.vmsa.specs.Answers.{refused, view};
 ghost use Rattle.vmsa.specs.Words.{regimeOf};
 ghost use Rattle.tlb.specs.Replies.{told, replyTo};
-ghost use Rattle.tlb.specs.Walker.{entryCount};
+ghost use Rattle.tlb.specs.Walker.{entryCount, walked as walkedOf};
 ghost use Rattle.tlb.specs.Ours.{ours};
-ghost use Rattle.tlb.specs.Entries.{entryView, regimeIn, entryFor, filling, accessedEntry, entryReply};
+ghost use Rattle.tlb.specs.Entries.{entryView, regimeIn, entryFor, filling, filledBy, entryAnswer, entryReply};
 ghost use Rattle.session.specs.Model.{storeIn};
 ghost use Rattle.words.specs.Words.{accessKind, accessOf, wordsOf, walkWords, refusalByte, entryReplied, numbered, setWords, hitOf};
 use checks::Checked;
@@ -18,6 +19,7 @@ use vmsa::Answer;
 use vmsa::Fault;
 use vmsa::PhysAddr;
 use vmsa::Refusal;
+use vmsa::Regime;
 use vmsa::RegimeWords;
 use vmsa::Success;
 use vmsa::VirtAddr;
@@ -63,7 +65,7 @@ pub struct FilledWords {
     pub answer: AnswerWords,
 }
 
-// Whether an access is answered by its page's entry, with a success or a fault, and the answer.
+// Whether an access is answered at once, refused or by its page's entry, and the answer.
 pub struct Hit {
     pub hit: bool,
     pub answer: AnswerWords,
@@ -206,11 +208,11 @@ pub fn set_words(n: usize, regime: RegimeWords) -> SetWords
     }
 }
 
-// The number of the entry of an access's page.
-pub fn entry_of(access: AccessWords) -> usize
-    ensures { λ i. ⌜ (i ≡ entryFor (accessOf access)) × (i < entryCount) ⌝ }
+// The number of the entry of an access's page, in a session with this regime.
+pub fn entry_of(regime: RegimeWords, access: AccessWords) -> usize
+    ensures { λ i. ⌜ (i ≡ entryFor (regimeOf regime) (accessOf access)) × (i < entryCount) ⌝ }
 {
-    tlb::entry_of(access_of(access))
+    tlb::entry_of(regime, access_of(access))
 }
 
 fn no_answer() -> AnswerWords
@@ -233,20 +235,19 @@ fn no_answer() -> AnswerWords
     }
 }
 
-// What the entry of an access's page says at once, over n bytes of memory, in every session that has it and this regime.
-pub fn hit_entry(regime: RegimeWords, set: u8, entry: Entry, n: usize, access: AccessWords) -> Hit
-    ensures { λ h. ⌜ h ≡ hitOf (entryReply n (accessOf access) (entryView entry) (regimeIn regime set)) ⌝ }
+// What the entry of an access's page answers, where it does.
+fn hit_words(r: Regime, entry: Entry, a: Access) -> Hit
+    requires { ⌜ 0 < a .size ⌝ }
+    ensures { λ h. ⌜ h ≡ hitOf (entryAnswer ours r a (entryView entry)) ⌝ }
 {
-    let a = access_of(access);
-    let r = regime.regime();
-    match tlb::hit_kind(regime, set, entry, n, a) {
+    match entry.hit_kind(r, a) {
         HitKind::Success => Hit {
             hit: true,
             answer: success_words(entry.success(r, a)),
         },
-        HitKind::Fault => Hit {
+        HitKind::Fault(kind) => Hit {
             hit: true,
-            answer: fault_words(entry.fault(r, a)),
+            answer: fault_words(entry.fault(kind)),
         },
         HitKind::Miss => Hit {
             hit: false,
@@ -255,18 +256,40 @@ pub fn hit_entry(regime: RegimeWords, set: u8, entry: Entry, n: usize, access: A
     }
 }
 
-// An access in every session that has this regime, and this entry for the access's page.
-pub fn access_entry(
+// What is said of an access at once, over n bytes of memory, in every session that has this regime, and this entry for the access's page.
+pub fn hit_entry(regime: RegimeWords, set: u8, entry: Entry, n: usize, access: AccessWords) -> Hit
+    ensures { λ h. ⌜ h ≡ hitOf (entryReply n (accessOf access) (entryView entry) (regimeIn regime set)) ⌝ }
+{
+    if set == 0 {
+        return Hit {
+            hit: true,
+            answer: refusal_words(Refusal::NoRegime),
+        };
+    }
+    let a = access_of(access);
+    let r = regime.regime();
+    match checks::check_session_access(n, r, a) {
+        Checked::Refused(refusal) => Hit {
+            hit: true,
+            answer: refusal_words(refusal),
+        },
+        Checked::Accepted => hit_words(r, entry, a),
+    }
+}
+
+// An access that walks, under this regime and with this entry for its page.
+pub fn walk_entry(
     regime: RegimeWords,
-    set: u8,
     entry: Entry,
     memory: &mut [u8],
     access: AccessWords,
 ) -> FilledWords
-    ensures { λ x. ⌜ filling (x .entry) (now (memory .exit)) (x .answer) ≡ entryReplied (accessedEntry regime set entry (now (memory .entry)) (accessOf access)) ⌝ }
+    requires { ⌜ (regimeOf regime .pool .start + regimeOf regime .pool .length ≤ length (now memory)) × (0 < accessOf access .size) ⌝ }
+    ensures { λ x. ⌜ filling (x .entry) (now (memory .exit)) (x .answer) ≡ entryReplied (filledBy entry (regimeOf regime) (accessOf access) (walkedOf ours (regimeOf regime) (now (memory .entry)) (accessOf access))) ⌝ }
 {
     let a = access_of(access);
-    let filled = tlb::access_entry(regime, set, entry, memory, a);
+    let r = regime.regime();
+    let filled = tlb::walk_entry(entry, memory, r, a);
     let after = filled.entry;
     let answer = filled.answer;
     FilledWords {

@@ -2,6 +2,8 @@
 
 use super::*;
 
+#[path = "tests/granule.rs"]
+mod granule;
 #[path = "tests/order.rs"]
 mod order;
 #[path = "tests/spare.rs"]
@@ -36,7 +38,8 @@ const REGIME: Regime = Regime {
     hpd0: 0,
     hpd1: 0,
     ee: 0,
-    spare: [0; 5],
+    granule: 0,
+    spare: [0; 4],
 };
 
 const READ: Access = Access {
@@ -259,11 +262,11 @@ fn fresh_session() {
 #[test]
 fn session_keeps_each_regime_field() {
     let numbers = Regime {
-        start: 0x1000,
-        length: 0x2000,
-        address: 0x1234_5678_9000,
-        root0: 0x2345_6789_a000,
-        root1: 0x3456_789a_b000,
+        start: 0x4000,
+        length: 0x8000,
+        address: 0x1234_5678_8000,
+        root0: 0x2345_6789_4000,
+        root1: 0x3456_789a_c000,
         attributes: 0x8877_6655_4433_2211,
         tsz0: 17,
         tsz1: 38,
@@ -271,11 +274,11 @@ fn session_keeps_each_regime_field() {
         ..REGIME
     };
     // Each flag is on and off, and any two of them differ somewhere.
-    for [disabled0, disabled1, ha, hd, wxn, hpd0, hpd1, ee] in [
-        [1, 0, 1, 1, 0, 1, 0, 0],
-        [0, 1, 1, 0, 1, 1, 0, 1],
-        [1, 0, 0, 0, 1, 1, 1, 0],
-        [1, 0, 1, 0, 0, 0, 1, 1],
+    for [disabled0, disabled1, ha, hd, wxn, hpd0, hpd1, ee, granule] in [
+        [1, 0, 1, 1, 0, 1, 0, 0, 0],
+        [0, 1, 1, 0, 1, 1, 0, 1, 0],
+        [1, 0, 0, 0, 1, 1, 1, 0, 2],
+        [1, 0, 1, 0, 0, 0, 1, 1, 2],
     ] {
         let regime = Regime {
             disabled0,
@@ -286,6 +289,7 @@ fn session_keeps_each_regime_field() {
             hpd0,
             hpd1,
             ee,
+            granule,
             ..numbers
         };
         assert_eq!(session(regime).regime, regime);
@@ -342,7 +346,7 @@ fn session_uses_each_regime_field() {
     };
     let hd_off = Regime { hd: 0, ..REGIME };
     type Change = fn(&mut Regime);
-    let changes: [(Regime, Access, Change); 17] = [
+    let changes: [(Regime, Access, Change); 19] = [
         (REGIME, READ, |r| r.start = 0x10000),
         (REGIME, READ, |r| r.length = 0x3000),
         (REGIME, READ, |r| r.address = POOL - 0x1000),
@@ -360,6 +364,8 @@ fn session_uses_each_regime_field() {
         (REGIME, under(READ), |r| r.hpd0 = 1),
         (REGIME, under(upper), |r| r.hpd1 = 1),
         (REGIME, READ, |r| r.ee = 1),
+        (REGIME, READ, |r| r.granule = 1),
+        (REGIME, READ, |r| r.granule = 2),
     ];
     for (i, (mut regime, access, change)) in changes.into_iter().enumerate() {
         let before = over(regime, access);
@@ -622,12 +628,26 @@ fn next(state: &mut u64) -> u64 {
     *state
 }
 
+/// The bytes of the granule that a regime's byte names.
+fn unit(granule: u8) -> usize {
+    match granule {
+        1 => 0x1_0000,
+        2 => 0x4000,
+        _ => 0x1000,
+    }
+}
+
 /// A regime with bytes that no call leaves in a session.
 fn any_regime(state: &mut u64) -> Regime {
     let mut byte = || next(state) as u8;
+    let granule = match byte() % 8 {
+        0 => 1,
+        1 => 2,
+        _ => byte(),
+    };
     let mut regime = Regime {
-        start: 0x1000 * usize::from(byte() % 6),
-        length: 0x1000 * usize::from(byte() % 4),
+        start: unit(granule) * usize::from(byte() % 6),
+        length: unit(granule) * usize::from(byte() % 4),
         output: byte() % 8,
         tsz0: byte() % 48,
         tsz1: byte(),
@@ -639,7 +659,8 @@ fn any_regime(state: &mut u64) -> Regime {
         hpd0: byte(),
         hpd1: byte(),
         ee: byte() & 0x80,
-        spare: [(); 5].map(|()| byte()),
+        granule,
+        spare: [(); 4].map(|()| byte()),
         ..REGIME
     };
     regime.root1 = next(state);
@@ -677,14 +698,15 @@ fn any_bytes_are_a_session() {
     // Whatever stands in a session, a call ends, and changes bytes of the pool
     // alone.
     let mut state = 0x2545_f491_4f6c_dd1d;
-    let mut around = vec![0; 0x6000];
+    let mut around = vec![0; 6 * unit(1)];
     for chunk in around.chunks_exact_mut(8) {
         chunk.copy_from_slice(&next(&mut state).to_le_bytes());
     }
     let mut answers = [0; 3];
     for _ in 0..20_000 {
         let mut session = any_session(&mut state);
-        let mut memory = around.clone();
+        let around = &around[..6 * unit(session.regime.granule)];
+        let mut memory = around.to_vec();
         let access = Access {
             address: next(&mut state) & 0xf_ffff,
             size: 1,

@@ -116,7 +116,7 @@ module _ {M : Type 1} (𝓤 : URA M) (H : Heap 𝓤) (A : Atoms 𝓤) (W : Given
         gets ! (addr ! (points ! 2 refl refl refl)) 2 refl (tt, tt) $
         gets ! (agg ! (and-then ! (local ! 2 refl) (and-then ! (part ! 2 1 refl refl refl) (no-more !)))) 2 refl (tt, (tt, (record { fits = room .0 }, tt))) $
         -- [the session's cell; the open borrow; the locals; what the memory's borrow owns; its token]
-        fetch ! 2 0 2 $ lends ! (a-struct 𝓤 H A R.the-type R′.the-laws R′.the-plain (h .regime) (regime-is h is) ∷ a-number 𝓤 H A W w8 (h .set) (set-is h is) ∷ []) (a-number 𝓤 H A W w64 address ia ∷ a-number 𝓤 H A W w64 value iv ∷ []) $
+        fetch ! 2 0 2 $ lends ! (id⊢ 𝓤 _) (a-struct 𝓤 H A R.the-type R′.the-laws R′.the-plain (h .regime) (regime-is h is) ∷ a-number 𝓤 H A W w8 (h .set) (set-is h is) ∷ []) (a-number 𝓤 H A W w64 address ia ∷ a-number 𝓤 H A W w64 value iv ∷ []) $
         calls-at ! fm (Callee 𝓤 H A at-mem run) known passed (and-then ! (local ! 3 refl) (and-then ! (local ! 3 refl) (and-then ! (local ! 3 refl) (and-then ! (local ! 3 refl) (and-then ! (local ! 3 refl) (no-more !)))))) (λ v.
         gave-memory u8 (vint w8) (uint-tells w8) ! (‵ (flft κ′ q′) ⊛ ‵ ftrue) 2 (memory .name) m 2 Stored (id⊢ 𝓤 _) (λ n l e long ix.
         -- [the memory's token; its last bytes; the session's cell; the open borrow; the locals]

@@ -108,7 +108,7 @@ module _ {M : Type 1} (𝓤 : URA M) (H : Heap 𝓤) (A : Atoms 𝓤) (W : Given
         -- *answer = words::walk_words(memory, regime, access);
         gets ! (addr ! (points ! 2 refl refl refl)) 2 refl (tt, tt) $
         gets ! (agg ! (and-then ! (local ! 2 refl) (and-then ! (part ! 2 1 refl refl refl) (no-more !)))) 2 refl (tt, (tt, (record { fits = room .0 }, tt))) $
-        fetch ! 2 0 2 $ lends ! [] (a-struct 𝓤 H A R.the-type R′.the-laws R′.the-plain (regime .now) ir ∷ a-struct 𝓤 H A G.the-type G′.the-laws G′.the-plain (access .now) ig ∷ []) $
+        fetch ! 2 0 2 $ lends ! (id⊢ 𝓤 _) [] (a-struct 𝓤 H A R.the-type R′.the-laws R′.the-plain (regime .now) ir ∷ a-struct 𝓤 H A G.the-type G′.the-laws G′.the-plain (access .now) ig ∷ []) $
         calls-at ! fm (Callee 𝓤 H A at-mem run) known passed (and-then ! (local ! 3 refl) (and-then ! (local ! 3 refl) (and-then ! (local ! 3 refl) (no-more !)))) (λ v.
         gave-memory N.the-row (LL.val N.the-type N′.the-laws) (LL.tells N.the-type N′.the-laws) ! (‵ (flft κ q) ⊛ ‵ ftrue) 0 (memory .name) m 2 (λ w l. WalkSays m (regime .now) (access .now) l w) (id⊢ 𝓤 _) (λ w l e long iw.
         takes ! 4 refl (typed N.the-type N′.the-laws 𝓤 H A W w _ iw) $

@@ -1,12 +1,21 @@
 use borrow.Author.Needs.{needs}
-use Rattle.checks.specs.Order.{accessCheck, walkCheck}
-use mathlib.Core.Path.{_∙_}
+use mathlib.Core.Path.{_≡_, sym, ap, _∙_}
+use Rattle.checks.specs.Order.{andThen, accessCheck}
+use Rattle.checks.specs.declared.Checked.{Checked}
+use Rattle.checks.proofs.Rows.{walk-apart}
 use Rattle.checks.proofs.check_walk.Statement.{statement}
 use Rattle.checks.proofs.check_walk.Tie as tie
 
 returns : tie.Need-returns
-unfolding walkCheck accessCheck
-returns c = c .regime-before .ensures ∙ rw (c .before .check-access .ensures)
+returns c =
+    let a = c .before .before .before .before .args in
+    sym (walk-apart (a .n) (a .r) (a .a) ∙ ap (λ (x : Checked). andThen x (accessCheck (a .r) (a .a))) (sym (c .before .before .before .check-regime .ensures) ∙ c .before .refusal .given .1))
+
+returns-2 : tie.Need-returns-2
+returns-2 c =
+    let a = c .before .before .before .before .args in
+    c .check-access .ensures
+    ∙ sym (walk-apart (a .n) (a .r) (a .a) ∙ ap (λ (x : Checked). andThen x (accessCheck (a .r) (a .a))) (sym (c .before .before .before .check-regime .ensures) ∙ c .before .enum-told .given .1))
 
 pub check-walk-spec : {M : Type 1} → statement M
-check-walk-spec = tie.close (tie.spec (λ c κs. search needs) (λ c κs. search needs) returns)
+check-walk-spec = tie.close (tie.spec (λ c κs. search needs) (λ c. search needs) (λ c. search needs) (λ c κs. search needs) returns returns-2)

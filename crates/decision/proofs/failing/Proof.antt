@@ -5,7 +5,7 @@ use Rattle.decision.proofs.failing.Tie as tie
 
 returns : tie.Need-returns
 unfolding failing
-returns c = rw (c .fault-of .ensures)
+returns c = rw (c .fault .ensures)
 
 pub failing-spec : {M : Type 1} → statement M
 failing-spec = tie.close (tie.spec (λ c κs. search needs) returns)

@@ -6,11 +6,11 @@ use Rattle.decision.proofs.output_of.Statement.{statement}
 use Rattle.decision.proofs.output_of.Tie as tie
 
 add-result : tie.Need-add-result
-add-result c = omega (arith, c .before .cut .ensures .1, mod-lt (c .before .before .before .args .a .address .0) (c .before .before .span .ensures .1))
+add-result c = omega (arith, c .before .before .output-in .ensures .1, mod-lt (c .before .before .before .before .args .a .address .0) (c .before .span .ensures .1), c .before .span .ensures .2)
 
 returns : tie.Need-returns
 unfolding outputOf
-returns c = rw (c .before .cut .ensures .0, c .before .before .span .ensures .0)
+returns c = rw (c .before .before .output-in .ensures .0, c .before .span .ensures .0, c .before .before .before .page-bits .ensures .0)
 
 pub output-of-spec : {M : Type 1} → statement M
-output-of-spec = tie.close (tie.spec (λ c κs. search needs) (λ c κs. search needs) (λ c. search needs) add-result returns)
+output-of-spec = tie.close (tie.spec (λ c κs. search needs) (λ c κs. search needs) (λ c κs. search needs) (λ c. search needs) add-result returns)

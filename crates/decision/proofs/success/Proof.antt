@@ -5,7 +5,7 @@ use Rattle.decision.proofs.success.Tie as tie
 
 returns : tie.Need-returns
 unfolding passing cacheable
-returns c = rw (c .bit2 .ensures, c .before .dirty-due .ensures, c .before .before .level .ensures, c .before .before .before .bit .ensures, c .before .before .before .before .field .ensures .0, c .before .before .before .before .before .attribute-of .ensures, c .before .before .before .before .before .before .output-of .ensures, c .before .before .before .before .before .before .before .flag-due .ensures)
+returns c = rw (c .bit2 .ensures, c .before .level .ensures, c .before .before .bit .ensures, c .before .before .before .field .ensures .0, c .before .before .before .before .attribute-of .ensures, c .before .before .before .before .before .output-of .ensures, c .before .before .before .before .before .before .flag-due .ensures, c .before .before .before .before .before .before .before .pre .1)
 
 pub success-spec : {M : Type 1} → statement M
 success-spec =
@@ -16,7 +16,6 @@ success-spec =
     (λ c κs. search needs)
     (λ c κs. search needs)
     (λ c. search needs)
-    (λ c κs. search needs)
     (λ c κs. search needs)
     (λ c κs. search needs)
     (λ c κs. search needs)

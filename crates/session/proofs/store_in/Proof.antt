@@ -21,19 +21,19 @@ returns c =
 add-end : tie.Need-add-end
 add-end c =
     let a = c .before .before .before .before .before .before .before .before .args in
-    let h = store-accepted (length (a .memory .now)) (c .before .before .before .before .before .regime .result .pool) (a .address .0) (sym (c .before .before .before .check-session-store .ensures) ∙ c .before .enum-told .given .1) in
+    let h = store-accepted (length (a .memory .now)) (c .before .before .before .before .before .regime .result) (a .address .0) (sym (c .before .before .before .check-session-store .ensures) ∙ c .before .enum-told .given .1) in
     omega (arith, h .fits)
 
 sub-offset : tie.Need-sub-offset
 sub-offset c =
     let a = c .before .before .before .before .before .before .before .before .before .before .args in
-    let h = store-accepted (length (a .memory .now)) (c .before .before .before .before .before .before .before .regime .result .pool) (a .address .0) (sym (c .before .before .before .before .before .check-session-store .ensures) ∙ c .before .before .before .enum-told .given .1) in
+    let h = store-accepted (length (a .memory .now)) (c .before .before .before .before .before .before .before .regime .result) (a .address .0) (sym (c .before .before .before .before .before .check-session-store .ensures) ∙ c .before .before .before .enum-told .given .1) in
     h .least
 
 part-store-end : tie.Need-part-store-end
 part-store-end c =
     let a = c .before .before .before .before .before .before .before .before .before .before .args in
-    let h = store-accepted (length (a .memory .now)) (c .before .before .before .before .before .before .before .regime .result .pool) (a .address .0) (sym (c .before .before .before .before .before .check-session-store .ensures) ∙ c .before .before .before .enum-told .given .1) in
+    let h = store-accepted (length (a .memory .now)) (c .before .before .before .before .before .before .before .regime .result) (a .address .0) (sym (c .before .before .before .before .before .check-session-store .ensures) ∙ c .before .before .before .enum-told .given .1) in
     omega (arith, h .fits)
 
 store-requires : tie.Need-store-requires
@@ -42,7 +42,7 @@ store-requires c κs =
     let r = c .before .before .before .before .before .before .before .before .regime .result in
     let s = r .pool .start in
     let n = r .pool .length in
-    let h = store-accepted (length (a .memory .now)) (r .pool) (a .address .0) (sym (c .before .before .before .before .before .before .check-session-store .ensures) ∙ c .before .before .before .before .enum-told .given .1) in
+    let h = store-accepted (length (a .memory .now)) r (a .address .0) (sym (c .before .before .before .before .before .before .check-session-store .ensures) ∙ c .before .before .before .before .enum-told .given .1) in
     store-room r (a .memory .now) (a .address .0) (s + n - s) h (add-sub-cancel-left s n)
 
 returns-2 : tie.Need-returns-2
@@ -56,8 +56,8 @@ returns-3 c =
     let r = c .before .before .before .before .before .before .before .before .before .before .before .regime .result in
     let s = r .pool .start in
     let n = r .pool .length in
-    let z : sessionStoreCheck (length (a .memory .now)) (r .pool) (a .address .0) ≡ Accepted = sym (c .before .before .before .before .before .before .before .before .before .check-session-store .ensures) ∙ c .before .before .before .before .before .before .before .enum-told .given .1 in
-    let e = stored r (a .memory .now) (a .address .0) (a .value) (store-accepted (length (a .memory .now)) (r .pool) (a .address .0) z) (c .before .before .store .last .0) (s + n - s) (add-sub-cancel-left s n) (c .before .before .store .ensures) in
+    let z : sessionStoreCheck (length (a .memory .now)) r (a .address .0) ≡ Accepted = sym (c .before .before .before .before .before .before .before .before .before .check-session-store .ensures) ∙ c .before .before .before .before .before .before .before .enum-told .given .1 in
+    let e = stored r (a .memory .now) (a .address .0) (a .value) (store-accepted (length (a .memory .now)) r (a .address .0) z) (c .before .before .store .last .0) (s + n - s) (add-sub-cancel-left s n) (c .before .before .store .ensures) in
     ap (told done) e
     ∙ store-set (a .regime) (a .set) (a .address .0) (a .value) (a .memory .now) (ap not (ne-eqb (a .set) 0 (c .before .before .before .before .before .before .before .before .before .before .before .before .if1 .left))) r (c .before .before .before .before .before .before .before .before .before .before .before .regime .ensures) _ z
 

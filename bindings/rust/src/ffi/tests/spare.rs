@@ -106,6 +106,7 @@ impl List {
             wxn: self.below(2) as u8,
             hpd0: self.below(4) as u8 / 3,
             ee: self.ee ^ (self.below(8) as u8 / 7),
+            granule: [1, 2, 3, 0, 0, 0, 0, 0][self.below(8) as usize],
             ..REGIME
         };
         self.noise.fill(&mut regime.spare);
@@ -216,7 +217,7 @@ fn zero_where_written() {
     // A session with a byte in all that is spare, and a regime and an access.
     const BYTE: u8 = 0xa5;
     let regime = Regime {
-        spare: [BYTE; 5],
+        spare: [BYTE; 4],
         ..REGIME
     };
     let read = Access {

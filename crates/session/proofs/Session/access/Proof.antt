@@ -5,7 +5,7 @@ use Rattle.session.proofs.Session.access.Tie as tie
 
 returns : tie.Need-returns
 returns c =
-    let a = c .before .before .before .before .before .before .before .before .before .before .args in
+    let a = c .before .before .before .before .before .before .before .before .before .before .before .args in
     let i = c .before .before .before .before .before .before .before .before .entry-of .ensures .0 in
     rw i (entry-leaves (a .t1) (a .memory .now) (a .a) _ (rw i at (c .before .before .before .access-entry .ensures)))
 

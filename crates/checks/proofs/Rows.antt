@@ -1,0 +1,29 @@
+-- The rows of two checks, one check after another.
+use Prim.Native.Nat.{ℕ}
+use mathlib.Core.Bool.{Bool, true, false}
+use mathlib.Core.List.{List, [], _∷_, _++_}
+use mathlib.Core.Path.{_≡_, refl}
+use Rattle.descriptor.specs.Bits.{pick}
+use Rattle.vmsa.specs.declared.Refusal.{Refusal}
+use Rattle.checks.specs.declared.Checked.{Checked}
+use Rattle.checks.specs.declared.Checked.the-variants.{Accepted, Refused}
+use Rattle.vmsa.specs.declared.Regime.{Regime}
+use Rattle.vmsa.specs.declared.Access.{Access}
+use Rattle.checks.specs.Order.{firstOf, andThen, regimeRows, accessRows, regimeCheck, accessCheck, walkCheck}
+
+pub first-append : (xs ys : List (Bool × Refusal)) → firstOf (xs ++ ys) ≡ andThen (firstOf xs) (firstOf ys)
+first-append [] ys = refl
+first-append (row ∷ xs) ys = by (row .0) (first-append xs ys)
+  where
+    by : (b : Bool) → firstOf (xs ++ ys) ≡ andThen (firstOf xs) (firstOf ys) → pick b (Refused (row .1)) (firstOf (xs ++ ys)) ≡ andThen (pick b (Refused (row .1)) (firstOf xs)) (firstOf ys)
+    by true e = refl
+    by false e = e
+
+pub both : (x y : Checked) → andThen x y ≡ Accepted → (x ≡ Accepted) × (y ≡ Accepted)
+both Accepted y q = (refl, q)
+both (Refused x) y q = (cc, cc)
+
+-- a plain walk checks its regime, and then its access
+pub walk-apart : (n : ℕ) (r : Regime) (a : Access) → walkCheck n r a ≡ andThen (regimeCheck n r) (accessCheck r a)
+unfolding regimeCheck accessCheck walkCheck
+walk-apart n r a = first-append (regimeRows n r) (accessRows r a)
