@@ -14,6 +14,10 @@ pub const FETCH: u8 = 3;
 pub const PROBE_READ: u8 = 4;
 pub const PROBE_WRITE: u8 = 5;
 
+pub const KIB4: u8 = 0;
+pub const KIB64: u8 = 1;
+pub const KIB16: u8 = 2;
+
 pub const SUCCESS: u8 = 0;
 pub const FAULT: u8 = 1;
 pub const REFUSED: u8 = 2;

@@ -1,15 +1,18 @@
 //! Both sides on random descriptors, tables, regimes and accesses, on any two
-//! mistakes of a call, at the limits, and on every leaf under all that tables
-//! can take away: each whole answer and each byte of memory is to be the same.
+//! mistakes of a call, at the limits, on every size field of each granule, and
+//! on every leaf under all that tables can take away: each whole answer and each byte of memory is to be the same.
 
 use crate::boundary::{self, Access, Regime};
-use crate::boundary::{FAULT, FETCH, PROBE_READ, PROBE_WRITE, READ, REFUSED, SUCCESS, WRITE};
+use crate::boundary::{FAULT, FETCH, KIB16, KIB4, KIB64, PROBE_READ, PROBE_WRITE, READ, REFUSED};
+use crate::boundary::{SUCCESS, WRITE};
 use crate::kernels::{self, LEAF_TABLES};
 use crate::plain::{self, MEMORY_LIMIT, POOL_LIMIT};
 
 const SCENES: u32 = 2_000;
 const CALLS: u32 = 100;
 const DESCRIPTORS: u32 = 50_000;
+/// For each size field of a granule.
+const GRANULE_CALLS: u32 = 200;
 
 /// xorshift64*, seeded once: every run makes the same calls.
 struct Random {
@@ -51,6 +54,7 @@ impl Random {
         regime.hpd0 = flag(5) & flag(6);
         regime.hpd1 = 2 * flag(7);
         regime.ee = 4 * self.ee;
+        regime.granule = if self.rarely() { self.below(4) as u8 } else { KIB4 };
         if self.rarely() {
             regime.disabled0 = 2;
         }
@@ -100,6 +104,17 @@ impl Random {
             kind,
             spare: self.spare(),
         }
+    }
+
+    /// A read or write of a page that `kernels::tables` maps under some granule
+    /// and size field, or of any address.
+    fn mapped(&mut self) -> Access {
+        let way = self.below(2) << 47 | self.below(512) << (12 + 2 * self.below(3));
+        let address = match self.below(4) {
+            0 => self.next() >> self.below(64),
+            _ => way + self.below(0x1_0000),
+        };
+        access(address, 1 << self.below(5), self.below(2) as u8)
     }
 
     /// The offset of a descriptor of the tables, most often of a leaf.
@@ -167,7 +182,7 @@ pub fn same_answers() -> u32 {
     same_limits();
     same_under_tables(0);
     same_under_tables(1);
-    same_descriptors(&mut random) + same_walks(&mut random)
+    same_descriptors(&mut random) + same_walks(&mut random) + same_granules(&mut random)
 }
 
 /// Spoils a call, whatever else was changed.
@@ -356,6 +371,36 @@ fn same_rights(sides: &mut Sides, regime: &Regime, leaf: u64) {
             sides.ask(None, &access);
         }
     }
+}
+
+/// Tables of each granule, also by a number that names none, under every size
+/// field: a walk and an access of a page that they map, or of any address.
+fn same_granules(random: &mut Random) -> u32 {
+    let mut calls = 0;
+    for granule in [KIB4, KIB16, KIB64, 3, u8::MAX] {
+        for tsz in 16..=39 {
+            let memory = kernels::tables(granule);
+            let regime = Regime {
+                tsz0: tsz,
+                tsz1: tsz,
+                granule,
+                ..kernels::regime(memory.len())
+            };
+            let mut sides = Sides {
+                memory: [memory.clone(), memory],
+                ..Sides::new(0)
+            };
+            sides.set_regime(&regime);
+            for _ in 0..GRANULE_CALLS {
+                let access = random.mapped();
+                sides.ask(Some(&regime), &access);
+                sides.ask(None, &access);
+                calls += 2;
+            }
+            assert!(sides.memory[0] == sides.memory[1], "other bytes: {granule}");
+        }
+    }
+    calls
 }
 
 /// Loads and stores, half of them in fewer than 16 bytes.

@@ -3,7 +3,7 @@
 use std::array;
 use std::hint::black_box;
 
-use crate::boundary::{self, Access, Answer, Regime, READ, WRITE};
+use crate::boundary::{self, Access, Answer, Regime, KIB16, KIB4, KIB64, READ, WRITE};
 use crate::plain;
 
 /// The addresses of every kernel repeat after so many calls.
@@ -24,6 +24,8 @@ pub enum Kernel {
     Walk4,
     Walk4Long,
     Walk4Big,
+    Walk4Kib16,
+    Walk3Kib64,
     Block2,
     Hit,
     HitLong,
@@ -43,12 +45,14 @@ pub enum Side {
 }
 
 impl Kernel {
-    pub const ALL: [Kernel; 13] = [
+    pub const ALL: [Kernel; 15] = [
         Kernel::Load,
         Kernel::Store,
         Kernel::Walk4,
         Kernel::Walk4Long,
         Kernel::Walk4Big,
+        Kernel::Walk4Kib16,
+        Kernel::Walk3Kib64,
         Kernel::Block2,
         Kernel::Hit,
         Kernel::HitLong,
@@ -66,6 +70,8 @@ impl Kernel {
             Kernel::Walk4 => "walk4",
             Kernel::Walk4Long => "walk4-long",
             Kernel::Walk4Big => "walk4-big",
+            Kernel::Walk4Kib16 => "walk4-16k",
+            Kernel::Walk3Kib64 => "walk3-64k",
             Kernel::Block2 => "block2",
             Kernel::Hit => "hit",
             Kernel::HitLong => "hit-long",
@@ -86,6 +92,9 @@ impl Kernel {
         match self {
             // 512 pages in a scattered order.
             Kernel::Walk4 | Kernel::Walk4Big => 0x40_0abc + ((i * 37 % 512) << 12),
+            // As many of 16 and of 64 KiB; with 16 KiB, bit 47 takes a level of its own.
+            Kernel::Walk4Kib16 => 0x8000_0000_0abc + ((i * 37 % 512) << 14),
+            Kernel::Walk3Kib64 => 0xabc + ((i * 37 % 512) << 16),
             // As many, in all tables of the last level.
             Kernel::Walk4Long => 0xabc + ((i * 37 % LEAF_TABLES) << 21) + ((i * 101 % 512) << 12),
             // 512 blocks of 2 MiB.
@@ -105,6 +114,7 @@ impl Kernel {
     fn memory(self) -> Vec<u8> {
         match self {
             Kernel::Walk4Long | Kernel::HitLong => long_memory(),
+            Kernel::Walk4Kib16 | Kernel::Walk3Kib64 => tables(self.granule()),
             _ => in_order(memory(), self.ee()),
         }
     }
@@ -112,6 +122,15 @@ impl Kernel {
     /// EE of its regime.
     fn ee(self) -> u8 {
         u8::from(self == Kernel::Walk4Big)
+    }
+
+    /// The granule of its regime.
+    fn granule(self) -> u8 {
+        match self {
+            Kernel::Walk4Kib16 => KIB16,
+            Kernel::Walk3Kib64 => KIB64,
+            _ => KIB4,
+        }
     }
 
     /// The kind of its accesses.
@@ -154,7 +173,8 @@ pub fn regime(length: usize) -> Regime {
         hpd0: 0,
         hpd1: 0,
         ee: 0,
-        spare: [0; 5],
+        granule: KIB4,
+        spare: [0; 4],
     }
 }
 
@@ -198,6 +218,29 @@ pub fn long_memory() -> Vec<u8> {
     memory
 }
 
+/// A table for each level of this granule, one after another, and 512 pages
+/// from the first address of the last one on, every leaf accessed and dirty.
+/// With 16 KiB the way goes by entry 1 of the first table.
+pub fn tables(granule: u8) -> Vec<u8> {
+    let (levels, page) = match granule {
+        KIB16 => (4, 14),
+        KIB64 => (3, 16),
+        _ => (4, 12),
+    };
+    let mut memory = vec![0; levels << page];
+    let mut put = |offset, value| put(&mut memory, offset, value);
+    for level in 1..levels {
+        let first = level == 1 && granule == KIB16;
+        let next = POOL_ADDRESS + ((level as u64) << page) + 3;
+        put(((level - 1) << page) + 8 * usize::from(first), next);
+    }
+    for i in 0..512 {
+        let at = ((levels - 1) << page) + 8 * i as usize;
+        put(at, 0x0008_0000_8000_0743 | i << page);
+    }
+    memory
+}
+
 /// These tables in the byte order of `ee`.
 pub fn in_order(mut memory: Vec<u8>, ee: u8) -> Vec<u8> {
     if ee != 0 {
@@ -226,6 +269,7 @@ impl Bed {
         let mut bed = Bed {
             regime: Regime {
                 ee: kernel.ee(),
+                granule: kernel.granule(),
                 ..regime(memory.len())
             },
             addresses: array::from_fn(|i| kernel.address(i as u64)),
@@ -275,17 +319,6 @@ impl Bed {
                 plain::store(plain_memory, at, at as u64, ee);
                 0
             }),
-            (Kernel::Walk4 | Kernel::Walk4Long | Kernel::Walk4Big | Kernel::Block2, Side::Ours) => {
-                answers(calls, kind, addresses, move |access| {
-                    boundary::walk(memory, black_box(regime), access)
-                })
-            }
-            (
-                Kernel::Walk4 | Kernel::Walk4Long | Kernel::Walk4Big | Kernel::Block2,
-                Side::Plain,
-            ) => answers(calls, kind, addresses, move |access| {
-                plain::walk(plain_memory, black_box(regime), access)
-            }),
             (Kernel::Hit | Kernel::HitLong | Kernel::HitFault | Kernel::Miss, Side::Ours) => {
                 answers(calls, kind, addresses, move |access| {
                     black_box(&mut *ours).access(memory, access)
@@ -331,6 +364,13 @@ impl Bed {
                 let answer = Answer::default();
                 answers(calls, kind, addresses, move |_| *black_box(&answer))
             }
+            // The kernels of the plain walk.
+            (_, Side::Ours) => answers(calls, kind, addresses, move |access| {
+                boundary::walk(memory, black_box(regime), access)
+            }),
+            (_, Side::Plain) => answers(calls, kind, addresses, move |access| {
+                plain::walk(plain_memory, black_box(regime), access)
+            }),
         }
     }
 }

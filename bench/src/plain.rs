@@ -29,6 +29,26 @@ const UXN_TABLE: u64 = 1 << 60;
 const NO_EL0: u64 = 1 << 61;
 const NO_WRITE: u64 = 1 << 62;
 
+/// The page bits of a granule (TG0's numbers; any other is 4 KiB).
+fn page_bits(granule: u8) -> u8 {
+    match granule {
+        1 => 16,
+        2 => 14,
+        _ => 12,
+    }
+}
+
+/// Whether `x` is a multiple of the regime's granule.
+fn aligned(regime: &Regime, x: u64) -> bool {
+    x & ((1 << page_bits(regime.granule)) - 1) == 0
+}
+
+/// The lowest bit of the index at a level, by the levels below it.
+fn shift(regime: &Regime, left: u8) -> u8 {
+    let page = page_bits(regime.granule);
+    page + (page - 3) * left
+}
+
 /// A descriptor from its bytes.
 fn value_of(bytes: [u8; 8], ee: u8) -> u64 {
     if ee != 0 {
@@ -98,8 +118,8 @@ fn fault(code: u16, level: u8, reads: u8) -> Answer {
 
 fn pool_fits(length: usize, regime: &Regime) -> bool {
     length <= MEMORY_LIMIT
-        && regime.start.is_multiple_of(4096)
-        && regime.length.is_multiple_of(4096)
+        && aligned(regime, regime.start as u64)
+        && aligned(regime, regime.length as u64)
         && regime.length != 0
         && regime.length <= POOL_LIMIT
         && regime.start <= length
@@ -111,10 +131,10 @@ fn attribute_known(byte: u8) -> bool {
 }
 
 fn refuse_regime(length: usize, regime: &Regime) -> Option<u8> {
-    let root_known = |root: u64| root.is_multiple_of(4096) && root < 1 << 48;
+    let root_known = |root: u64| aligned(regime, root) && root < 1 << 48;
     if !pool_fits(length, regime) {
         Some(1)
-    } else if !regime.address.is_multiple_of(4096)
+    } else if !aligned(regime, regime.address)
         || regime.address > (1 << 48) - regime.length as u64
     {
         Some(2)
@@ -139,16 +159,17 @@ fn refuse_regime(length: usize, regime: &Regime) -> Option<u8> {
     }
 }
 
-fn refuse_access(access: &Access) -> Option<u8> {
+fn refuse_access(regime: &Regime, access: &Access) -> Option<u8> {
     // A kind above 5 is taken as an update, here and below.
     let size_known = match access.kind {
         FETCH => access.size == 4 && access.address.is_multiple_of(4),
         PROBE_READ | PROBE_WRITE => access.size == 1,
         _ => matches!(access.size, 1 | 2 | 4 | 8 | 16),
     };
+    let page = page_bits(regime.granule);
     if !size_known {
         Some(6)
-    } else if access.address >> 12 != access.address.wrapping_add(access.size - 1) >> 12 {
+    } else if access.address >> page != access.address.wrapping_add(access.size - 1) >> page {
         Some(7)
     } else {
         None
@@ -175,14 +196,16 @@ fn find(pool: &[u8], regime: &Regime, address: u64) -> Result<Found, Answer> {
 
     let input = address & ((1 << bits) - 1);
     let mut table = root;
-    let mut left = (51 - tsz) / 9;
+    let page = page_bits(regime.granule);
+    let stride = page - 3;
+    let mut left = (63 - tsz - page) / stride;
     let mut tables = 0;
     let mut reads = 0;
     loop {
         let level = 3 - left;
         let stop = |code: u16, reads: u8| Err(fault(code + u16::from(level), level, reads));
-        let shift = 12 + 9 * left;
-        let at = table + 8 * (input >> shift & 511);
+        let shift = page + stride * left;
+        let at = table + 8 * (input >> shift & ((1 << stride) - 1));
         reads += 1;
 
         // Both are multiples of 8: a descriptor that starts in the pool ends
@@ -196,11 +219,12 @@ fn find(pool: &[u8], regime: &Regime, address: u64) -> Result<Found, Answer> {
         let value = value_of(bytes, regime.ee);
 
         let wide = value & 2 != 0;
-        if value & 1 == 0 || (!wide && (left == 0 || left == 3)) {
+        // Blocks have at most 1 GiB.
+        if value & 1 == 0 || (!wide && (left == 0 || shift > 30)) {
             return stop(TRANSLATION, reads);
         }
         if wide && left > 0 {
-            table = value & 0xffff_ffff_f000;
+            table = value & ((1 << 48) - (1 << page));
             if table >= limit {
                 return stop(ADDRESS_SIZE, reads);
             }
@@ -213,7 +237,7 @@ fn find(pool: &[u8], regime: &Regime, address: u64) -> Result<Found, Answer> {
             tables: if hpd != 0 { 0 } else { tables },
             left,
         };
-        if leaf.base() >= limit {
+        if leaf.base(regime) >= limit {
             return stop(ADDRESS_SIZE, reads);
         }
         return Ok(Found {
@@ -225,8 +249,8 @@ fn find(pool: &[u8], regime: &Regime, address: u64) -> Result<Found, Answer> {
 }
 
 impl Leaf {
-    fn base(self) -> u64 {
-        let shift = 12 + 9 * self.left;
+    fn base(self, regime: &Regime) -> u64 {
+        let shift = shift(regime, self.left);
         (self.value & 0xffff_ffff_ffff) >> shift << shift
     }
 
@@ -272,9 +296,9 @@ impl Leaf {
             PROBE_READ | PROBE_WRITE => (false, false),
             _ => (!is(AF), is(AP2)),
         };
-        let inside = (1 << (12 + 9 * self.left)) - 1;
+        let inside = (1 << shift(regime, self.left)) - 1;
         Answer {
-            output: self.base() | access.address & inside,
+            output: self.base(regime) | access.address & inside,
             tag: SUCCESS,
             refusal: 0,
             code: 0,
@@ -321,7 +345,7 @@ fn translate(memory: &mut [u8], regime: &Regime, access: &Access) -> (Answer, Op
 
 #[inline(never)]
 pub fn walk(memory: &mut [u8], regime: &Regime, access: &Access) -> Answer {
-    let refusal = refuse_regime(memory.len(), regime).or_else(|| refuse_access(access));
+    let refusal = refuse_regime(memory.len(), regime).or_else(|| refuse_access(regime, access));
     match refusal {
         Some(refusal) => refused(refusal),
         None => translate(memory, regime, access).0,
@@ -365,11 +389,11 @@ impl Session {
         if !pool_fits(memory.len(), regime) {
             return refused(1);
         }
-        if let Some(refusal) = refuse_access(access) {
+        if let Some(refusal) = refuse_access(regime, access) {
             return refused(refusal);
         }
 
-        let page = access.address >> 12;
+        let page = access.address >> page_bits(regime.granule);
         let place = &mut self.entries[(page % 64) as usize];
         if let Some(entry) = place.filter(|entry| entry.page == page) {
             let answer = entry.leaf.judge(regime, access, 0);

@@ -1,5 +1,5 @@
 -- The worked cases P1 to P12 as one table under one claim (RULES 12).
-use Prim.Native.Nat.{ℕ, _+_, _*_, _-_, _^_}
+use Prim.Native.Nat.{ℕ, _+_, _*_, _-_}
 use mathlib.Core.Bool.{Bool, true, false}
 use mathlib.Core.List.{List, [], _∷_, _++_}
 use mathlib.Core.Path.{_≡_}
@@ -7,7 +7,6 @@ use lib.ListN.{length, replicate, take, drop}
 use Rattle.descriptor.specs.Bytes.{put}
 use Rattle.vmsa.specs.Answers.{Result, success, fault, refused}
 use Rattle.vmsa.specs.Settings.{disabledRange, withPool, withRange0, withRange1, withHpd0, withHpd1, withOutput, withHa, withHd, withWxn, withEe, withGranule, withAttributes}
-use Rattle.vmsa.specs.Granules.{pageBits}
 use Rattle.vmsa.specs.declared.Granule.{Granule}
 use Rattle.vmsa.specs.declared.Granule.the-variants.{Kib4, Kib16, Kib64}
 use Rattle.vmsa.specs.declared.Regime.{Regime}
@@ -207,6 +206,12 @@ readSwapped r = row r (usual Read) (stored poolAddress swappedDescriptor ∷ [])
 abbrev pub rangeOf : ℕ → ℕ → Range
 rangeOf t root = record { root = record { 0 = root }; tsz = t; disabled = false; hpd = false }
 
+-- the bytes of a table
+abbrev pub tableBytes : Granule → ℕ
+tableBytes Kib4 = 4096
+tableBytes Kib16 = 16384
+tableBytes Kib64 = 65536
+
 -- a regime of this granule, its ranges of size field t; the pool has room for the tables of a way
 abbrev pub granuled : Granule → ℕ → Regime
 granuled g t = withGranule (withPool (withRange0 (withRange1 base (rangeOf t poolAddress)) (rangeOf t poolAddress)) (workedPool 262144)) g
@@ -225,7 +230,7 @@ lastNow (d ∷ []) v = (d .0, v) ∷ []
 lastNow (d ∷ e ∷ ds) v = lastNow (e ∷ ds) v
 
 abbrev pub wayIn : Regime → List ℕ → ℕ → List (ℕ × ℕ)
-wayIn r indexes v = way (2 ^ pageBits (r .granule)) 0 indexes v
+wayIn r indexes v = way (tableBytes (r .granule)) 0 indexes v
 
 -- a read that goes by these indexes to the leaf v, at this level: its output address, and the leaf afterwards
 abbrev pub reaches : Regime → List ℕ → ℕ → ℕ → ℕ → ℕ → ℕ → Row
@@ -363,35 +368,42 @@ rows =
     ∷ readSwapped bigEndian
     ∷ readSwapped base
     -- 16 KiB: from each first level to a page, whose address is cut at bit 14
-    ∷ reaches (granuled Kib16 16) (0x001 ∷ 0x405 ∷ 0x406 ∷ 0x407 ∷ []) 0xC0580D01EABC page16 3 0x80006ABC accessedPage16
-    ∷ reaches (granuled Kib16 17) (0x405 ∷ 0x406 ∷ 0x407 ∷ []) 0x40580D01EABC page16 3 0x80006ABC accessedPage16
-    ∷ reaches (granuled Kib16 28) (0x406 ∷ 0x407 ∷ []) 0x80D01EABC page16 3 0x80006ABC accessedPage16
-    ∷ reaches (granuled Kib16 39) (0x407 ∷ []) 0x101EABC page16 3 0x80006ABC accessedPage16
+    ∷ reaches (granuled Kib16 16) (0x001 ∷ 0x405 ∷ 0x406 ∷ 0x407 ∷ []) 0xC0580D01DABC page16 3 0x80005ABC accessedPage16
+    ∷ reaches (granuled Kib16 17) (0x405 ∷ 0x406 ∷ 0x407 ∷ []) 0x40580D01DABC page16 3 0x80005ABC accessedPage16
+    ∷ reaches (granuled Kib16 28) (0x406 ∷ 0x407 ∷ []) 0x80D01DABC page16 3 0x80005ABC accessedPage16
+    ∷ reaches (granuled Kib16 39) (0x407 ∷ []) 0x101DABC page16 3 0x80005ABC accessedPage16
     -- 64 KiB: the same, cut at bit 16; and with EE on
-    ∷ reaches (granuled Kib64 16) (0x0025 ∷ 0x1005 ∷ 0x1006 ∷ []) 0x9600B006CABC page64 3 0x8001CABC accessedPage64
-    ∷ reaches (granuled Kib64 22) (0x1005 ∷ 0x1006 ∷ []) 0x200B006CABC page64 3 0x8001CABC accessedPage64
-    ∷ reaches (granuled Kib64 35) (0x1006 ∷ []) 0x1006CABC page64 3 0x8001CABC accessedPage64
-    ∷ reaches (withEe (granuled Kib64 16) true) (0x0025 ∷ 0x1005 ∷ 0x1006 ∷ []) 0x9600B006CABC page64 3 0x8001CABC accessedPage64
+    ∷ reaches (granuled Kib64 16) (0x0025 ∷ 0x1005 ∷ 0x1006 ∷ []) 0x9600B0065ABC page64 3 0x80015ABC accessedPage64
+    ∷ reaches (granuled Kib64 22) (0x1005 ∷ 0x1006 ∷ []) 0x200B0065ABC page64 3 0x80015ABC accessedPage64
+    ∷ reaches (granuled Kib64 35) (0x1006 ∷ []) 0x10065ABC page64 3 0x80015ABC accessedPage64
+    ∷ reaches (withEe (granuled Kib64 16) true) (0x0025 ∷ 0x1005 ∷ 0x1006 ∷ []) 0x9600B0065ABC page64 3 0x80015ABC accessedPage64
+    -- the index of the first level is cut to address bits below 64 - T, which range 1 shows, where the bits above are 1: to 1 bit of 11 and 6 of 13, and at level 2 to 1 bit
+    ∷ reaches (granuled Kib16 16) (0x001 ∷ 0x405 ∷ 0x406 ∷ 0x407 ∷ []) 0xFFFFC0580D01DABC page16 3 0x80005ABC accessedPage16
+    ∷ reaches (granuled Kib64 16) (0x0025 ∷ 0x1005 ∷ 0x1006 ∷ []) 0xFFFF9600B0065ABC page64 3 0x80015ABC accessedPage64
+    ∷ reaches (granuled Kib16 38) (0x001 ∷ 0x407 ∷ []) 0xFFFFFFFFFF01DABC page16 3 0x80005ABC accessedPage16
+    ∷ reaches (granuled Kib64 34) (0x0001 ∷ 0x1006 ∷ []) 0xFFFFFFFFF0065ABC page64 3 0x80015ABC accessedPage64
     -- a block at level 2, its address cut at bit 25, at bit 29
-    ∷ reaches (granuled Kib16 17) (0x405 ∷ 0x406 ∷ []) 0x40580DFE2ABC block16 2 0x83FE2ABC accessedBlock16
-    ∷ reaches (granuled Kib64 16) (0x0025 ∷ 0x1005 ∷ []) 0x9600BFFDCABC block64 2 0xBFFDCABC accessedBlock64
+    ∷ reaches (granuled Kib16 17) (0x405 ∷ 0x406 ∷ []) 0x40580CFE2ABC block16 2 0x82FE2ABC accessedBlock16
+    ∷ reaches (granuled Kib64 16) (0x0025 ∷ 0x1005 ∷ []) 0x9600AFFDCABC block64 2 0xAFFDCABC accessedBlock64
     -- 01 at a level without blocks: 0, 1 and 3 of 16 KiB, 1 and 3 of 64 KiB
-    ∷ misses (granuled Kib16 16) (0x001 ∷ []) 0xC0580D01EABC block16 4 0
-    ∷ misses (granuled Kib16 17) (0x405 ∷ []) 0x40580D01EABC block16 5 1
-    ∷ misses (granuled Kib16 39) (0x407 ∷ []) 0x101EABC block16 7 3
-    ∷ misses (granuled Kib64 16) (0x0025 ∷ []) 0x9600B006CABC block64 5 1
-    ∷ misses (granuled Kib64 35) (0x1006 ∷ []) 0x1006CABC block64 7 3
-    -- across a multiple of 4,096 within a page of 16 and of 64 KiB; and out of it
+    ∷ misses (granuled Kib16 16) (0x001 ∷ []) 0xC0580D01DABC block16 4 0
+    ∷ misses (granuled Kib16 17) (0x405 ∷ []) 0x40580D01DABC block16 5 1
+    ∷ misses (granuled Kib16 39) (0x407 ∷ []) 0x101DABC block16 7 3
+    ∷ misses (granuled Kib64 16) (0x0025 ∷ []) 0x9600B0065ABC block64 5 1
+    ∷ misses (granuled Kib64 35) (0x1006 ∷ []) 0x10065ABC block64 7 3
+    -- across a multiple of 4,096 within a page of 16 KiB, of 16,384 within one of 64 KiB; and out of the page, of 16 KiB within 64
     ∷ reaches (granuled Kib16 39) (0x407 ∷ []) 0x101EFFD page16 3 0x80006FFD accessedPage16
-    ∷ reaches (granuled Kib64 35) (0x1006 ∷ []) 0x1006CFFD page64 3 0x8001CFFD accessedPage64
-    ∷ row (granuled Kib16 39) (access 0x101FFFD 4 Read) [] (refused 7) []
+    ∷ reaches (granuled Kib64 35) (0x1006 ∷ []) 0x10067FFD page64 3 0x80017FFD accessedPage64
+    ∷ row (granuled Kib16 39) (access 0x101BFFD 4 Read) [] (refused 7) []
     ∷ row (granuled Kib64 35) (access 0x1006FFFD 4 Read) [] (refused 7) []
-    -- pool length, pool address and root: multiples of 4,096, and then of 16,384, but not of the granule
+    -- pool length, pool address and roots: multiples of 4,096, or of 16,384, but not of the granule
     ∷ row (withPool (granuled Kib16 16) (workedPool 69632)) (usual Read) [] (refused 1) []
     ∷ row (withPool (granuled Kib64 16) (workedPool 81920)) (usual Read) [] (refused 1) []
     ∷ row (withPool (granuled Kib16 16) (movedPool 0 65536 0x40001000)) (usual Read) [] (refused 2) []
     ∷ row (withPool (granuled Kib64 16) (movedPool 0 65536 0x40004000)) (usual Read) [] (refused 2) []
     ∷ row (withRange0 (granuled Kib16 16) (rangeOf 16 0x40001000)) (usual Read) [] (refused 4) []
+    ∷ row (withRange1 (granuled Kib16 16) (rangeOf 16 0x40001000)) (usual Read) [] (refused 4) []
+    ∷ row (withRange0 (granuled Kib64 16) (rangeOf 16 0x40004000)) (usual Read) [] (refused 4) []
     ∷ row (withRange1 (granuled Kib64 16) (rangeOf 16 0x40004000)) (usual Read) [] (refused 4) []
     ∷ []
 
@@ -408,7 +420,8 @@ firstBytes r = take 8 (memory r)
 
 -- the claim: every row holds; P2 and the write over eight different bytes leave these bytes of the leaf, with EE off and on; the byte-swapped first
 -- descriptor has these, with EE on those of P1's; P6 and P7 read these addresses, the last within the pool and just after it;
--- a memory of so many bytes is accepted, and of one more refused; so is, under 16 and 64 KiB, a pool from the start of a page on, and from a multiple of 4,096 or 16,384 that is none
+-- a memory of so many bytes is accepted, and of one more refused; so is, under 16 and 64 KiB, a pool that starts at a multiple of the granule (under 16 KiB with length, address and
+-- roots that are no multiples of 64 KiB), and one that starts at a multiple of 4,096 or 16,384 alone
 unfoldable pub Worked : Type 0
 Worked =
     All rows
@@ -422,7 +435,7 @@ Worked =
     × (visitedIn (withThird 0x40010003) ≡ 0x40000000 ∷ 0x40001000 ∷ 0x40002010 ∷ 0x40010018 ∷ [])
     × (walkCheck 16777216 base (usual Read) ≡ Accepted)
     × (walkCheck 16777217 base (usual Read) ≡ Refused MemoryPool)
-    × (walkCheck 16777216 (withPool (granuled Kib16 16) (movedPool 16384 65536 poolAddress)) (usual Read) ≡ Accepted)
+    × (walkCheck 16777216 (withRange1 (withRange0 (withPool (granuled Kib16 16) (movedPool 16384 81920 0x40004000)) (rangeOf 16 0x40004000)) (rangeOf 16 0x4000C000)) (usual Read) ≡ Accepted)
     × (walkCheck 16777216 (withPool (granuled Kib16 16) (movedPool 4096 65536 poolAddress)) (usual Read) ≡ Refused MemoryPool)
     × (walkCheck 16777216 (withPool (granuled Kib64 16) (movedPool 65536 65536 poolAddress)) (usual Read) ≡ Accepted)
     × (walkCheck 16777216 (withPool (granuled Kib64 16) (movedPool 16384 65536 poolAddress)) (usual Read) ≡ Refused MemoryPool)

@@ -1,5 +1,5 @@
 -- The levels of the tables (RULES 6.2), for a granule of 2 ^ p bytes. A level is named by the number of levels left below it, 0 for level 3.
-use Prim.Native.Nat.{ℕ, _+_, _*_, _-_, _/_, _%_, _^_}
+use Prim.Native.Nat.{ℕ, _+_, _*_, _-_, _/_, _%_, _^_, min}
 use mathlib.Core.Bool.{Bool, not, _&&_}
 use mathlib.Core.List.{List, [], _∷_}
 use lib.Dec.{eqb, leb}
@@ -32,6 +32,10 @@ shiftOf p left = p + (p - 3) * left
 
 unfoldable pub span : ℕ → ℕ → ℕ
 span p left = 2 ^ shiftOf p left
+
+-- how many address bits a level's index has: those from its lowest up to the next level's, cut to those below 64 - t (RULES 6.2)
+unfoldable pub indexBits : ℕ → ℕ → ℕ → ℕ
+indexBits p t left = min (strideBits p) (64 - t - shiftOf p left)
 
 -- whether a level has blocks: above level 3, where an entry maps at most 2 ^ 30 bytes (RULES 6.2: levels 1 and 2 for 4 KiB, level 2 for the others)
 unfoldable pub blockAt : ℕ → ℕ → Bool

@@ -5,3 +5,4 @@ pub mod Packing
 pub mod Readers
 pub mod Page
 pub mod Sums
+pub mod Index

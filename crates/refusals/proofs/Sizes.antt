@@ -1,9 +1,8 @@
 -- The sizes of an access as bits of one number.
 use Prim.Native.Nat.{ℕ, _<_, _≤_, suc-le-suc}
 use mathlib.Core.Bool.{true, not}
-use mathlib.Core.Path.{_≡_, refl, sym}
+use mathlib.Core.Path.{_≡_, refl}
 use native.Mathlib.Omega.{arith}
-use lib.Dec.{eqb}
 use borrow.Author.Tests.{ne-eqb}
 use Rattle.descriptor.specs.Bits.{bit}
 use Rattle.refusals.specs.Tests.{sizeBad}

@@ -6,7 +6,6 @@ use mathlib.Core.Logic.{_⊎_, inl, inr, _↔_}
 use mathlib.Core.Option.{Option, none, some}
 use mathlib.Core.Path.{_≡_, refl, sym, ap, _∙_}
 use native.Mathlib.Omega.{arith}
-use lib.Dec.{lit≤}
 use lib.ListN.{length, getD}
 use Rattle.descriptor.specs.Bytes.{Bytes, desc, put}
 use Rattle.descriptor.specs.Bits.{pick, bit}

@@ -23,7 +23,7 @@ use Rattle.vmsa.proofs.Words.{regime-words}
 use Rattle.checks.specs.declared.Checked.{Checked}
 use Rattle.checks.specs.declared.Checked.the-variants.{Accepted, Refused}
 use Rattle.refusals.specs.Tests.{storeAddressBad}
-use Rattle.checks.specs.Order.{memoryRows, settingRows, storeRows, regimeCheck, sessionStoreCheck, andThen}
+use Rattle.checks.specs.Order.{memoryRows, settingRows, storeRows, regimeCheck, sessionStoreCheck}
 use Rattle.checks.proofs.Accept.{clear, pooled}
 use Rattle.walk.proofs.Parts.{length-part}
 use Rattle.tlb.specs.declared.Entry.{Entry as EntryStruct}

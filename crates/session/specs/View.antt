@@ -55,7 +55,7 @@ abbrev pub setAfter : SessionStruct → Regime → Checked → SessionStruct
 setAfter s r Accepted = setTo (regimeWords r)
 setAfter s r (Refused x) = s
 
--- an access: at most the entry of its page is replaced, by the granule of the session's regime
+-- an access: at most the entry of its page, which is counted by the granule of the session's regime, is replaced
 abbrev pub numberIn : SessionStruct → Access → ℕ
 numberIn s a = entryFor (regimeOf (s .regime)) a
 

@@ -3,3 +3,4 @@ pub mod Walking
 pub mod Entries
 pub mod Found
 pub mod Access
+pub mod Pages

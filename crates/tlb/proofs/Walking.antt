@@ -1,7 +1,7 @@
--- The session's walk past the checks is the plain walk over the pool; the checks of its calls are the rows of RULES 5.
+-- The session's walk past the checks is the plain walk over the pool.
 use Prim.Native.Nat.{ℕ, zero, suc, _+_, _-_, _*_, _/_, _%_, _≤_, _^_}
 use mathlib.Core.Bool.{Bool, true, false, not, _||_}
-use mathlib.Core.List.{List, [], _∷_, _++_}
+use mathlib.Core.List.{List}
 use mathlib.Core.Option.{Option, none, some}
 use mathlib.Core.Path.{_≡_, refl, sym, ap, ap₂, _∙_}
 use native.Mathlib.Nat.{mul-div-cancel, add-zero}
@@ -21,11 +21,8 @@ use Rattle.vmsa.specs.Answers.{Result, cacheableIn}
 use Rattle.vmsa.specs.declared.Regime.{Regime}
 use Rattle.vmsa.specs.declared.Access.{Access}
 use Rattle.vmsa.specs.declared.Leaf.{Leaf}
-use Rattle.vmsa.specs.declared.Refusal.{Refusal}
-use Rattle.checks.specs.declared.Checked.{Checked}
-use Rattle.checks.specs.declared.Checked.the-variants.{Accepted, Refused}
 use Rattle.refusals.specs.Tests.{sizesBad, rootBad, rootsBad}
-use Rattle.checks.specs.Order.{firstBefore, firstOf, andThen}
+use Rattle.checks.specs.Order.{firstBefore}
 use Rattle.checks.proofs.Accept.{sized, Rooted, rooted}
 use Rattle.lookup.specs.Trace.{End, fault, leaf, Trace}
 use Rattle.lookup.specs.Steps.{rangeOf}

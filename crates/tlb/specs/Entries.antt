@@ -1,6 +1,6 @@
 -- An entry of the code (RULES 10.2 and 10.5) in the walker's values, and what an access leaves of it (RULES 10.3).
 use Prim.Native.Nat.{ℕ}
-use mathlib.Core.Bool.{Bool, true, false, _&&_}
+use mathlib.Core.Bool.{_&&_}
 use mathlib.Core.List.{List}
 use mathlib.Core.Option.{Option, none, some}
 use lib.Dec.{leb}
@@ -26,11 +26,11 @@ use Rattle.tlb.specs.declared.Held.{Held}
 use Rattle.tlb.specs.declared.Held.the-variants as held
 use Rattle.tlb.specs.declared.Asked.{Asked}
 use Rattle.tlb.specs.declared.Asked.the-variants as asked
-use Rattle.tlb.specs.Replies.{Reply, done, refused, answered, replyOf}
+use Rattle.tlb.specs.Replies.{Reply, refused, answered, replyOf}
 use Rattle.tlb.specs.Walker.{Walker, noRegime, Entry, empty, holds, entryOf, heldIn, Walked, accessIn}
 use Rattle.tlb.specs.Ours.{ours}
 
--- an entry that is not held, or whose leaf stands at no level, is empty
+-- an entry that is not held, or whose leaf stands at none of levels 0 to 3, is empty
 abbrev pub entryView : EntryStruct → Entry
 entryView e = pick (flag (e .held) && leb (e .left) 3) (holds (e .page) (record { value = e .value; left = e .left; tables = e .tables })) empty
 

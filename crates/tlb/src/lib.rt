@@ -197,7 +197,8 @@ fn page_of(r: Regime, a: Access) -> u64
     ensures { λ p. ⌜ p ≡ pageFor r a ⌝ }
 {
     let granule = r.granule;
-    geometry::page_of(granule.page_bits(), a.address)
+    let p = granule.page_bits();
+    geometry::page_of(p, a.address)
 }
 
 // The number of the entry of an access's page, in a session with this regime.

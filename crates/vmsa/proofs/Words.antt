@@ -1,5 +1,6 @@
 -- A regime comes back from its numbers.
 use Prim.Native.Nat.{ℕ, suc}
+use mathlib.Core.List.{[], _∷_, map}
 use mathlib.Core.Bool.{Bool, true, false}
 use mathlib.Core.Path.{_≡_, refl}
 use Rattle.vmsa.specs.declared.Regime.{Regime}
@@ -17,7 +18,11 @@ granule-number Kib4 = refl
 granule-number Kib16 = refl
 granule-number Kib64 = refl
 
--- every number from 3 on is taken as 4 KiB
+-- as TG0 has them: 0, 1, 2; and every number from 3 on is taken as 4 KiB
+pub granules-numbered : map granuleNumbered (0 ∷ 1 ∷ 2 ∷ []) ≡ Kib4 ∷ Kib64 ∷ Kib16 ∷ []
+unfolding granuleNumbered
+granules-numbered = refl
+
 pub granule-other : (n : ℕ) → granuleNumbered (suc (suc (suc n))) ≡ Kib4
 unfolding granuleNumbered
 granule-other n = refl

@@ -1,7 +1,7 @@
 -- A regime as numbers (RULES 15.1).
 use Prim.Native.Nat.{ℕ}
 use mathlib.Core.Bool.{Bool, not}
-use mathlib.Core.List.{List, [], _∷_}
+use mathlib.Core.List.{[], _∷_}
 use lib.Dec.{eqb}
 use lib.ListN.{getD}
 use Rattle.descriptor.specs.Bits.{pick}

@@ -2,7 +2,7 @@
 ghost use mathlib.Core.Path.{_≡_};
 ghost use Prim.Native.Nat.{_<_};
 ghost use Rattle.vmsa.specs.Kinds.{isFetch, isProbe, asksWrite, writes as writesOf};
-ghost use Rattle.vmsa.specs.Attributes.{attribute as attributeOf, device as deviceOf, normal as normalOf};
+ghost use Rattle.vmsa.specs.Attributes.{attribute as attributeOf, device as deviceOf};
 ghost use Rattle.vmsa.specs.Answers.{numberOf, codeOf, view, cacheableIn, dirtiedIn};
 ghost use Rattle.vmsa.specs.Granules.{pageBits, Paged};
 ghost use Rattle.vmsa.specs.Words.{flagByte, granuleNumber, granuleNumbered, regimeOf, regimeWords};
@@ -559,11 +559,4 @@ pub fn device(b: u8) -> bool
     ensures { λ r. ⌜ r ≡ deviceOf b ⌝ }
 {
     (b == 0) | (b == 4) | (b == 8) | (b == 12)
-}
-
-// Whether an attribute byte says Normal memory.
-pub fn normal(b: u8) -> bool
-    ensures { λ r. ⌜ r ≡ normalOf b ⌝ }
-{
-    !(b / 16 == 0) & !(b % 16 == 0)
 }

@@ -18,7 +18,7 @@ use Rattle.vmsa.specs.declared.RegimeWords.{RegimeWords}
 use Rattle.checks.specs.declared.Checked.{Checked}
 use Rattle.checks.specs.declared.Checked.the-variants.{Accepted, Refused}
 use Rattle.checks.specs.Order.{regimeCheck}
-use Rattle.tlb.specs.Replies.{Reply, done, refused as refusedWith, answered, Told, replyOf, replyTo}
+use Rattle.tlb.specs.Replies.{Reply, Told, replyOf, replyTo}
 use Rattle.tlb.specs.Ours.{ours}
 use Rattle.tlb.specs.Entries.{entryView, regimeIn, Filling, accessedEntry, entryReply}
 use Rattle.session.specs.declared.Session.{Session as SessionStruct}

@@ -1,5 +1,6 @@
-// Runs the worked cases P1 to P12 and a session, and prints a line for each access: its answer, and the leaf descriptor afterwards.
+// Runs the worked cases P1 to P12, a way through tables of 16 and of 64 KiB, and a session, and prints a line for each access: its answer, and the leaf descriptor afterwards.
 ghost use mathlib.Core.Path.{_≡_};
+ghost use Prim.Native.Nat.{_+_, _≤_};
 ghost use Rattle.vmsa.specs.Settings.{withPool};
 ghost use Rattle.walk.specs.Walk.{outcome, walk as walkOf};
 ghost use Rattle.cases.specs.Cases.{base as baseOf, workedPool, eight as eightOf, access as accessOf, usual as usualOf, puts, tablesWith};
@@ -10,6 +11,7 @@ use vmsa::Access;
 use vmsa::AccessKind;
 use vmsa::Answer;
 use vmsa::Fault;
+use vmsa::Granule;
 use vmsa::PhysAddr;
 use vmsa::Pool;
 use vmsa::Range;
@@ -209,36 +211,80 @@ fn run_long(memory: &mut [u8; TOO_LONG], a: Access) {
     run_in(memory, 12, base(TOO_LONG), a, THIRD, LEAF);
 }
 
-// ---- a session
+// ---- granules
 
-// An access in a session whose tables have the byte order of ee, and its line.
-fn step(session: Session, memory: &mut [u8; LENGTH], text: &[u8], a: Access, ee: bool) -> Session {
+// An access in a session, and its line, with the leaf descriptor at an offset.
+fn step_at(
+    session: Session,
+    memory: &mut [u8; LENGTH],
+    text: &[u8],
+    a: Access,
+    leaf: usize,
+) -> Session
+    requires { ⌜ leaf + 8 ≤ 65536 ⌝ }
+{
     let x = session.access(memory, a);
     let after = x.session;
     let answer = x.answer;
     print(text);
-    print_answer(answer, descriptor::load(memory, LEAF_OFFSET, ee));
+    print_answer(answer, descriptor::load(memory, leaf, false));
     after
+}
+
+// A read through four tables of 16 KiB, and one of the same page across a multiple of 4,096. The table addresses are cut at bit 14.
+fn run_kib16(memory: &mut [u8; LENGTH], r: Regime) {
+    descriptor::store(memory, 0x0008, 0x40007003, false);
+    descriptor::store(memory, 0x6028, 0x4000B003, false);
+    descriptor::store(memory, 0xA030, 0x4000F003, false);
+    descriptor::store(memory, 0xE038, 0x00080000800073C3, false);
+    let set = Session::empty().set_regime(memory, r.with_granule(Granule::Kib16));
+    let read = access(0xC0580D01DABC, 4, AccessKind::Read);
+    let across = access(0xC0580D01EFFD, 4, AccessKind::Read);
+    let s1 = step_at(set.session, memory, b"16 KiB:", read, 0xE038);
+    step_at(s1, memory, b"16 KiB, the same page:", across, 0xE038);
+}
+
+// The same through one table of 64 KiB, the first level being the last.
+fn run_kib64(memory: &mut [u8; LENGTH], r: Regime) {
+    descriptor::store(memory, 0x8030, 0x000800008001F3C3, false);
+    let range = Range {
+        root: PhysAddr(POOL_ADDRESS),
+        tsz: 35,
+        disabled: false,
+        hpd: false,
+    };
+    let granuled = r.with_granule(Granule::Kib64).with_range0(range);
+    let set = Session::empty().set_regime(memory, granuled);
+    let read = access(0x10065ABC, 4, AccessKind::Read);
+    let across = access(0x10067FFD, 4, AccessKind::Read);
+    let s1 = step_at(set.session, memory, b"64 KiB:", read, 0x8030);
+    step_at(s1, memory, b"64 KiB, the same page:", across, 0x8030);
+}
+
+// ---- a session
+
+// One with the leaf of the worked cases.
+fn step(session: Session, memory: &mut [u8; LENGTH], text: &[u8], a: Access) -> Session {
+    step_at(session, memory, text, a, LEAF_OFFSET)
 }
 
 // The session of the README: a miss, hits, the first write, a store without and with a drop.
 fn run_session(memory: &mut [u8; LENGTH], r: Regime) {
     let read = usual(AccessKind::Read);
     let write = usual(AccessKind::Write);
-    let ee = r.ee;
-    fill(memory, THIRD, LEAF, ee);
-    let s0 = step(Session::empty(), memory, b"no regime:", read, ee);
+    fill(memory, THIRD, LEAF, false);
+    let s0 = step(Session::empty(), memory, b"no regime:", read);
     let set = s0.set_regime(memory, r);
     let s1 = set.session;
-    let s2 = step(s1, memory, b"first read:", read, ee);
-    let s3 = step(s2, memory, b"second read:", read, ee);
-    let s4 = step(s3, memory, b"first write:", write, ee);
-    let s5 = step(s4, memory, b"second write:", write, ee);
+    let s2 = step(s1, memory, b"first read:", read);
+    let s3 = step(s2, memory, b"second read:", read);
+    let s4 = step(s3, memory, b"first write:", write);
+    let s5 = step(s4, memory, b"second write:", write);
     let gone = s5.store(memory, PhysAddr(LEAF_ADDRESS), 0);
     let s6 = gone.session;
-    let s7 = step(s6, memory, b"after a store:", read, ee);
-    let s8 = step(s7.invalidate_all(), memory, b"after a drop:", read, ee);
-    step(s8, memory, b"and again:", read, ee);
+    let s7 = step(s6, memory, b"after a store:", read);
+    let s8 = step(s7.invalidate_all(), memory, b"after a drop:", read);
+    step(s8, memory, b"and again:", read);
 }
 
 fn main() {
@@ -272,6 +318,10 @@ fn main() {
     print(b"with EE: ");
     let mut big = [0u8; LENGTH];
     run_bytes(&mut big, r.with_ee(true), write);
+    let mut tables16 = [0u8; LENGTH];
+    run_kib16(&mut tables16, r);
+    let mut tables64 = [0u8; LENGTH];
+    run_kib64(&mut tables64, r);
     let mut long = [0u8; TOO_LONG];
     run_long(&mut long, read);
     let mut memory = [0u8; LENGTH];

@@ -1,5 +1,5 @@
 use borrow.Author.Needs.{needs}
-use mathlib.Core.Path.{_≡_, sym, ap, _∙_}
+use mathlib.Core.Path.{sym, ap, _∙_}
 use Rattle.checks.specs.Order.{andThen, accessCheck}
 use Rattle.checks.specs.declared.Checked.{Checked}
 use Rattle.checks.proofs.Rows.{walk-apart}

@@ -1,7 +1,7 @@
 use borrow.Author.Needs.{needs}
 use native.Mathlib.Nat.{mod-lt}
 use lib.Dec.{lit<}
-use mathlib.Core.Path.{ap, _∙_}
+use mathlib.Core.Path.{ap}
 use Rattle.tlb.specs.Walker.{entryOf}
 use Rattle.tlb.proofs.entry_of.Statement.{statement}
 use Rattle.tlb.proofs.entry_of.Tie as tie
