@@ -54,7 +54,11 @@ impl Random {
         regime.hpd0 = flag(5) & flag(6);
         regime.hpd1 = 2 * flag(7);
         regime.ee = 4 * self.ee;
-        regime.granule = if self.rarely() { self.below(4) as u8 } else { KIB4 };
+        regime.granule = if self.rarely() {
+            self.below(4) as u8
+        } else {
+            KIB4
+        };
         if self.rarely() {
             regime.disabled0 = 2;
         }

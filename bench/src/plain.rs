@@ -134,8 +134,7 @@ fn refuse_regime(length: usize, regime: &Regime) -> Option<u8> {
     let root_known = |root: u64| aligned(regime, root) && root < 1 << 48;
     if !pool_fits(length, regime) {
         Some(1)
-    } else if !aligned(regime, regime.address)
-        || regime.address > (1 << 48) - regime.length as u64
+    } else if !aligned(regime, regime.address) || regime.address > (1 << 48) - regime.length as u64
     {
         Some(2)
     } else if !(16..=39).contains(&regime.tsz0)
