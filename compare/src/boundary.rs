@@ -10,10 +10,11 @@
 
 mod session;
 
+use crate::geometry::Granule;
 use crate::random::Random;
 use crate::reference::{Access, Answer, Kind, Pool, Range, Regime};
 pub use session::{CEntry, CSession, LibrarySession, Reply, SessionFunctions, Subject, SUM_BITS};
-use std::mem::{self, size_of};
+use std::mem::{self, offset_of, size_of};
 use std::{array, slice};
 
 #[repr(C)]
@@ -37,7 +38,9 @@ pub struct CRegime {
     pub hpd0: u8,
     pub hpd1: u8,
     pub ee: u8,
-    pub spare: [u8; 5],
+    /// As in Arm's TG0: see `granule_of`.
+    pub granule: u8,
+    pub spare: [u8; 4],
 }
 
 #[repr(C)]
@@ -69,6 +72,19 @@ pub struct CAnswer {
     pub spare: [u8; 4],
 }
 
+// The numbers of the two larger granules; any other says 4 KiB.
+const GRANULE_64: u8 = 1;
+const GRANULE_16: u8 = 2;
+
+/// The granule that a byte says.
+pub fn granule_of(byte: u8) -> Granule {
+    match byte {
+        GRANULE_64 => Granule::Kib64,
+        GRANULE_16 => Granule::Kib16,
+        _ => Granule::Kib4,
+    }
+}
+
 impl CRegime {
     /// The regime that these numbers say.
     pub fn read(&self) -> Regime {
@@ -93,6 +109,7 @@ impl CRegime {
             hd: self.hd != 0,
             wxn: self.wxn != 0,
             ee: self.ee != 0,
+            granule: granule_of(self.granule),
             attributes: self.attributes.to_le_bytes(),
         }
     }
@@ -100,6 +117,7 @@ impl CRegime {
 
 const _: () = {
     assert!(size_of::<CRegime>() == 64);
+    assert!(offset_of!(CRegime, granule) == 59);
     assert!(size_of::<CAccess>() == 24);
     assert!(size_of::<CAnswer>() == 24);
 };
@@ -139,13 +157,15 @@ pub const SUCCESS: u8 = 0;
 pub const FAULT: u8 = 1;
 pub const REFUSED: u8 = 2;
 
-/// How the plain numbers are spelled: any nonzero byte says true, and every
-/// number above 5 says update, as 2 does. The noise fills spare bytes, and
-/// memory that the library only writes.
+/// How the plain numbers are spelled: any nonzero byte says true, every number
+/// above 5 says update, as 2 does, and every one above 2 a granule of 4 KiB, as
+/// 0 does. The noise fills spare bytes, and memory that the library only
+/// writes.
 #[derive(Clone, Copy, Debug)]
 pub struct Spelling {
     pub truth: u8,
     pub update: u8,
+    pub kib_4: u8,
     pub noise: u64,
 }
 
@@ -153,6 +173,7 @@ impl Spelling {
     pub const PLAIN: Spelling = Spelling {
         truth: 1,
         update: 2,
+        kib_4: 0,
         noise: 0,
     };
 
@@ -165,9 +186,11 @@ impl Spelling {
             };
         }
         let any = random.between(1, 0xFF) as u8;
+        let above_2 = random.between(3, 0xFF) as u8;
         Spelling {
             truth: random.pick(&[1, 2, 3, 4, 16, 0x7F, 0x80, 0xFE, 0xFF, any, any, any]),
             update: random.pick(&[2, 6, 7, 8, 9, 10, 0x80, 0x85, 0xFE, 0xFF]),
+            kib_4: random.pick(&[0, 3, 0x81, 0x82, above_2, above_2, above_2, above_2]),
             noise,
         }
     }
@@ -183,6 +206,14 @@ impl Spelling {
             self.truth
         } else {
             0
+        }
+    }
+
+    fn granule(self, granule: Granule) -> u8 {
+        match granule {
+            Granule::Kib4 => self.kib_4,
+            Granule::Kib16 => GRANULE_16,
+            Granule::Kib64 => GRANULE_64,
         }
     }
 
@@ -206,6 +237,7 @@ impl Spelling {
             hpd0: self.flag(lower.hpd),
             hpd1: self.flag(upper.hpd),
             ee: self.flag(regime.ee),
+            granule: self.granule(regime.granule),
             spare: self.spare(1),
         }
     }

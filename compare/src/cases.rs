@@ -1,6 +1,7 @@
 //! The cases, each family in a file of its own.
 
 mod edges;
+mod granules;
 mod large;
 mod noise;
 mod pools;
@@ -62,6 +63,7 @@ pub fn run_all(seed: u64, runner: &mut dyn Runner) {
     tables::run(&mut maker);
     shapes::run(&mut maker);
     edges::run(&mut maker);
+    granules::run(&mut maker);
     noise::run(&mut maker);
     refusals::run(&mut maker);
     pools::run(&mut maker);

@@ -6,6 +6,8 @@ pub mod boundary;
 pub mod cases;
 pub mod counts;
 pub mod decisions;
+pub mod geometry;
+pub mod granules;
 pub mod limits;
 pub mod orders;
 pub mod promises;

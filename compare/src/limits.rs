@@ -1,15 +1,18 @@
 //! Calls at the limits of memory and pool (RULES 2.1 and 2.2) and just past
 //! them, and how far up in them a call reaches: what both tallies count by.
 
-use crate::reference::{Pool, GRANULE, MEMORY_LIMIT, POOL_LIMIT};
+use crate::geometry::Granule;
+use crate::reference::{Pool, Regime, MEMORY_LIMIT, POOL_LIMIT};
 use crate::refusals::row_1;
 use std::fmt;
 
-const PAGE: usize = GRANULE as usize;
 const ONE_BYTE_MORE: usize = MEMORY_LIMIT + 1;
 const ONE_BYTE_LESS: usize = MEMORY_LIMIT - 1;
+
 /// Granules in the longest pool.
-pub const POOL_GRANULES: u64 = POOL_LIMIT as u64 / GRANULE;
+pub fn longest_pool(granule: Granule) -> u64 {
+    POOL_LIMIT as u64 / granule.bytes()
+}
 
 #[derive(Clone, Copy, Debug, PartialEq, Eq, PartialOrd, Ord)]
 pub enum Limit {
@@ -46,6 +49,12 @@ impl Limit {
     pub const OF_POOL: [Limit; 2] = [Limit::PoolPastMemory, Limit::PoolTooLong];
     /// Those that an address in the longest pool is at.
     pub const OF_ADDRESS: [Limit; 2] = [Limit::LastOfPool, Limit::BehindPool];
+
+    pub fn all() -> impl Iterator<Item = Limit> {
+        let of_others = Limit::OF_POOL.into_iter().chain(Limit::OF_ADDRESS);
+        let of_memory = Limit::KEPT.into_iter().chain(Limit::OF_MEMORY);
+        of_memory.chain(of_others)
+    }
 }
 
 /// The limits that a memory and a pool are at, where row 1 does not apply.
@@ -59,23 +68,24 @@ pub fn kept(memory_length: usize, pool: &Pool) -> impl Iterator<Item = Limit> {
 
 /// The limit that is passed where row 1 applies, if it is one alone and by as
 /// little as can be: with so much less, or more, row 1 would not apply.
-pub fn passed(memory_length: usize, pool: &Pool) -> Option<Limit> {
-    let fits = |length, pool: &Pool| !row_1(length, pool);
+pub fn passed(memory_length: usize, regime: &Regime) -> Option<Limit> {
+    let (pool, granule) = (&regime.pool, regime.granule.length());
+    let fits = |length, pool: Pool| !row_1(length, &Regime { pool, ..*regime });
     let end = pool.start as u128 + pool.length as u128;
     let earlier = Pool {
-        start: pool.start.wrapping_sub(PAGE),
+        start: pool.start.wrapping_sub(granule),
         ..*pool
     };
     let shorter = Pool {
-        length: pool.length.wrapping_sub(PAGE),
+        length: pool.length.wrapping_sub(granule),
         ..*pool
     };
     let too_long = end <= memory_length as u128 && shorter.length == POOL_LIMIT;
     match memory_length {
-        ONE_BYTE_MORE if fits(MEMORY_LIMIT, pool) => Some(Limit::MemoryTooLong),
-        ONE_BYTE_LESS if fits(MEMORY_LIMIT, pool) => Some(Limit::MemoryTooShort),
-        MEMORY_LIMIT if fits(MEMORY_LIMIT, &earlier) => Some(Limit::PoolPastMemory),
-        _ if too_long && fits(memory_length, &shorter) => Some(Limit::PoolTooLong),
+        ONE_BYTE_MORE if fits(MEMORY_LIMIT, *pool) => Some(Limit::MemoryTooLong),
+        ONE_BYTE_LESS if fits(MEMORY_LIMIT, *pool) => Some(Limit::MemoryTooShort),
+        MEMORY_LIMIT if fits(MEMORY_LIMIT, earlier) => Some(Limit::PoolPastMemory),
+        _ if too_long && fits(memory_length, shorter) => Some(Limit::PoolTooLong),
         _ => None,
     }
 }
@@ -94,15 +104,18 @@ fn end(pool: &Pool) -> u64 {
     pool.address + pool.length as u64
 }
 
-/// Granules by their number in a pool or a memory. An octave has those with
-/// the same highest bit; the first has granule 0 alone.
+/// Bytes of a piece of a pool or a memory.
+const PIECE: usize = 4096;
+
+/// Pieces by their number in a pool or a memory. An octave has those with the
+/// same highest bit; the first has piece 0 alone.
 #[derive(Clone, Copy, Debug, PartialEq, Eq, PartialOrd, Ord)]
 pub struct Octave(u32);
 
 impl Octave {
-    /// That of the granule in which an offset lies.
+    /// That of the piece in which an offset lies.
     pub fn of(offset: usize) -> Self {
-        Octave(usize::BITS - (offset / PAGE).leading_zeros())
+        Octave(usize::BITS - (offset / PIECE).leading_zeros())
     }
 
     /// All that so many bytes have.

@@ -1,12 +1,12 @@
 //! Plain walks in each byte order of descriptors (RULES 2.3): what their tally
 //! counts by.
 
-use crate::reference::{
-    bit, first_level, look, Access, Answer, FaultKind, Kind, Pool, Regime, Walk,
-};
+use crate::geometry::Granule;
+use crate::reference::{bit, look, Access, Answer, FaultKind, Kind, Pool, Regime, Walk};
 use crate::refusals::WALK;
 use crate::reversed::other_order;
 use crate::tally::marks_name;
+use std::collections::BTreeSet;
 use std::fmt;
 
 /// How often each thing must be met in each order.
@@ -18,12 +18,13 @@ pub fn with_each_order<T: Clone>(things: Vec<T>) -> impl Iterator<Item = (bool, 
     things.into_iter().map(|thing| (false, thing)).chain(with)
 }
 
-/// How a walk ends that would end otherwise in the other order.
+/// How a walk ends that would end otherwise in another one, say in the other
+/// order.
 #[derive(Clone, Copy, Debug, PartialEq, Eq, PartialOrd, Ord)]
 pub enum Turn {
-    /// A success; in the other order a fault.
+    /// A success; in the other one a fault.
     ThisAlone,
-    /// A fault; in the other order a success.
+    /// A fault; in the other one a success.
     OtherAlone,
     /// Two successes that differ.
     Both,
@@ -37,8 +38,13 @@ impl Turn {
     /// None where the order has no say.
     pub fn of(memory: &[u8], regime: &Regime, access: &Access, answer: &Answer) -> Option<Turn> {
         let other = look(memory, &other_order(regime), access).answer;
-        match (answer, &other) {
-            _ if *answer == other => None,
+        Turn::between(answer, &other)
+    }
+
+    /// None where both answers are the same.
+    pub fn between(answer: &Answer, other: &Answer) -> Option<Turn> {
+        match (answer, other) {
+            _ if answer == other => None,
             (Answer::Success(_), Answer::Success(_)) => Some(Turn::Both),
             (Answer::Success(_), _) => Some(Turn::ThisAlone),
             (_, Answer::Success(_)) => Some(Turn::OtherAlone),
@@ -68,9 +74,11 @@ impl Ordered {
     /// All that can occur.
     pub fn all() -> Vec<Ordered> {
         let mut all: Vec<Ordered> = WALK.iter().copied().map(Ordered::Refused).collect();
-        for first in 0..=2u8 {
-            all.extend((first.max(1)..=3).map(|level| Ordered::Success(first, level)));
-        }
+        let ways: BTreeSet<(u8, u8)> = Granule::ALL.into_iter().flat_map(Granule::ways).collect();
+        all.extend(
+            ways.into_iter()
+                .map(|(first, level)| Ordered::Success(first, level)),
+        );
         for level in 0..=3 {
             // Leaves are at levels 1 to 3 only.
             let on_way = |kind: &FaultKind| level > 0 || !kind.is_of_leaf();
@@ -90,12 +98,12 @@ impl Ordered {
 
     /// What a walk over a memory meets.
     pub fn of(memory: &[u8], regime: &Regime, access: &Access, walk: &Walk) -> Vec<Ordered> {
-        let range = usize::from(bit(access.address, 55));
-        let first = first_level(regime.ranges[range].t);
         let mut met = Vec::new();
         match walk.answer {
             Answer::Refused(number) => met.push(Ordered::Refused(number)),
             Answer::Success(success) => {
+                let range = usize::from(bit(access.address, 55));
+                let first = regime.granule.first_level(regime.ranges[range].t);
                 met.push(Ordered::Success(first, success.level));
                 let (accessed, dirtied) = (success.accessed, success.dirtied);
                 if accessed || dirtied {

@@ -4,6 +4,7 @@
 
 use crate::bare;
 use crate::boundary::{CAnswer, FAULT, REFUSED, SUCCESS};
+use crate::geometry::Granule;
 use crate::reference::{
     bit, Access, Kind, Regime, Walk, AP_TABLE_0, AP_TABLE_1, PXN_TABLE, UXN_TABLE,
 };
@@ -12,6 +13,20 @@ use crate::refusals::WALK;
 const AF_BIT: u64 = 1 << 10;
 const AP2_BIT: u64 = 1 << 7;
 const OUTPUT_BITS: [u32; 6] = [32, 36, 40, 42, 44, 48];
+
+/// Address bits that a leaf of a level does not translate, for each granule.
+fn mapped_bits(granule: Granule, level: u8) -> Option<u32> {
+    match (granule, level) {
+        (Granule::Kib4, 1) => Some(30),
+        (Granule::Kib4, 2) => Some(21),
+        (Granule::Kib4, 3) => Some(12),
+        (Granule::Kib16, 2) => Some(25),
+        (Granule::Kib16, 3) => Some(14),
+        (Granule::Kib64, 2) => Some(29),
+        (Granule::Kib64, 3) => Some(16),
+        _ => None,
+    }
+}
 
 /// What the maker of a case already knows of its answer.
 #[derive(Clone, Copy, Debug, PartialEq, Eq)]
@@ -40,13 +55,23 @@ fn word(regime: &Regime, memory: &[u8], offset: usize) -> u64 {
     }
 }
 
+/// Bytes that are compared in one go; then words.
+const STRIDE: usize = 1024;
+
+/// Where the first piece of so many bytes begins, from an offset on, in which
+/// two memories differ.
+fn first_piece(before: &[u8], after: &[u8], from: usize, bytes: usize) -> usize {
+    let pieces = before[from..].chunks(bytes);
+    let mut pairs = pieces.zip(after[from..].chunks(bytes));
+    from + bytes * pairs.position(|(old, new)| old != new).unwrap_or(0)
+}
+
 fn change(before: &[u8], after: &[u8]) -> Change {
     if before == after {
         return Change::None;
     }
-    let differ = |(a, b): (&u8, &u8)| a != b;
-    let first = before.iter().zip(after).position(differ).unwrap_or(0);
-    let offset = first - first % 8;
+    let offset = first_piece(before, after, 0, STRIDE);
+    let offset = first_piece(before, after, offset, 8);
     let end = offset + 8;
     if end <= before.len() && before[end..] == after[end..] {
         Change::Word(offset)
@@ -165,8 +190,14 @@ pub fn check(
         "the dirty mark is told wrongly",
     )?;
 
-    demand(answer.reads <= 4, "more than 4 reads")?;
+    // With 64 KiB there are levels 1 to 3, and level 0 for what is not read.
+    let missing = u8::from(regime.granule == Granule::Kib64);
+    demand(answer.reads <= 4 - missing, "more reads than levels")?;
     demand(answer.level <= 3, "a level above 3")?;
+    demand(
+        answer.reads == 0 || answer.level >= missing,
+        "a level that is not there",
+    )?;
     demand(answer.cacheable <= 1, "a truth value above 1")?;
 
     if answer.tag == FAULT {
@@ -184,13 +215,13 @@ pub fn check(
     if answer.tag == SUCCESS {
         let bits = OUTPUT_BITS[usize::from(regime.output_code)];
         demand(answer.output >> bits == 0, "output beyond the output size")?;
+        let mapped = mapped_bits(regime.granule, answer.level);
+        let Some(mapped) = mapped.filter(|_| answer.reads >= 1) else {
+            return Err("success without a leaf".to_string());
+        };
         demand(
-            answer.output % 4096 == access.address % 4096,
-            "output at another place in its page",
-        )?;
-        demand(
-            answer.reads >= 1 && answer.level >= 1,
-            "success without a leaf",
+            (answer.output ^ access.address) << (64 - mapped) == 0,
+            "output at another place in what its leaf maps",
         )?;
         demand(
             regime.attributes.contains(&answer.attribute),

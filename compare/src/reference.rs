@@ -1,7 +1,7 @@
-//! The second walker: stage 1, EL1&0, 4 KiB granule.
+//! The second walker: stage 1, EL1&0.
 //!
 //! It was written from document 01 of the customer; what the customer's
-//! requests change (so far) from these and from
+//! requests change (so far) from these and from
 //! docs/RULES.md. It shares nothing with the library or its bindings. The
 //! places cited are those of docs/RULES.md, which says the same in numbered
 //! sections.
@@ -9,18 +9,13 @@
 //! One loop goes down the levels and keeps the list of descriptor addresses;
 //! sums that could pass 2^64 are made in 128 bits.
 
+use crate::geometry::{Granule, LAST_LEVEL};
 use crate::refusals;
 
-/// Bytes in a granule: the size of a page and of a table.
-pub const GRANULE: u64 = 4096;
 /// Longest memory that may be lent (RULES 2.1).
 pub const MEMORY_LIMIT: usize = 16_777_216;
 /// Longest pool (RULES 2.2).
 pub const POOL_LIMIT: usize = 1_048_576;
-/// Physical addresses lie below this (RULES 5.1, rows 2 and 4).
-pub const PHYSICAL_LIMIT: u64 = 1 << 48;
-/// Bits 47..12: where descriptors keep an address (RULES 6.2).
-pub const ADDRESS_FIELD: u64 = (PHYSICAL_LIMIT - 1) & !(GRANULE - 1);
 
 /// Places of the leaf fields (RULES 6.9).
 pub const AP1: u32 = 6;
@@ -70,6 +65,8 @@ pub struct Regime {
     pub wxn: bool,
     /// Descriptors stand in the pool highest byte first (RULES 2.3 and 3.1).
     pub ee: bool,
+    /// The size of pages and tables, of both ranges (RULES 3.1).
+    pub granule: Granule,
     pub attributes: [u8; 8],
 }
 
@@ -233,35 +230,9 @@ pub fn output_limit(code: u8) -> u64 {
     1 << output_bits(code)
 }
 
-/// The level of the first table (RULES 6.2).
-pub fn first_level(t: u8) -> u8 {
-    match t {
-        16..=24 => 0,
-        25..=33 => 1,
-        _ => 2,
-    }
-}
-
-/// Lowest address bit that picks an entry at this level (RULES 6.2). A leaf
-/// at this level maps 2 to that many bytes.
-pub fn lowest_index_bit(level: u8) -> u32 {
-    39 - 9 * u32::from(level)
-}
-
-/// Number of address bits that pick an entry; fewer at the first level.
-pub fn index_bits(t: u8, level: u8) -> u32 {
-    let low = lowest_index_bit(level);
-    let high = if level == first_level(t) {
-        (low + 9).min(64 - u32::from(t))
-    } else {
-        low + 9
-    };
-    high - low
-}
-
-/// The output address bits of a leaf (RULES 6.2): 47..30, 47..21, 47..12.
-pub fn leaf_address(leaf: &Leaf) -> u64 {
-    leaf.descriptor & ADDRESS_FIELD & !((1 << lowest_index_bit(leaf.level)) - 1)
+/// The output address bits of a leaf (RULES 6.2).
+pub fn leaf_address(granule: Granule, leaf: &Leaf) -> u64 {
+    leaf.descriptor & granule.leaf_field(leaf.level)
 }
 
 /// RULES 3.3.
@@ -333,6 +304,45 @@ fn range_of(regime: &Regime, address: u64) -> Result<&Range, Stop> {
     Ok(range)
 }
 
+/// What a descriptor is at its level (RULES 6.4), and the address that it has.
+#[derive(Clone, Copy, Debug, PartialEq, Eq)]
+pub enum Found {
+    Nothing,
+    Table(u64),
+    Leaf(u64),
+}
+
+impl Found {
+    pub fn of(granule: Granule, level: u8, descriptor: u64) -> Found {
+        match descriptor & 3 {
+            3 if level < LAST_LEVEL => Found::Table(descriptor & granule.table_field()),
+            3 => Found::Leaf(descriptor & granule.leaf_field(level)),
+            1 if granule.has_blocks(level) => Found::Leaf(descriptor & granule.leaf_field(level)),
+            _ => Found::Nothing,
+        }
+    }
+}
+
+/// RULES 6.3 to 6.5: what the descriptor at a physical address is, the
+/// descriptor itself, and its offset in the memory.
+fn read_entry(
+    memory: &[u8],
+    regime: &Regime,
+    level: u8,
+    entry: u64,
+) -> Result<(Found, u64, usize), FaultKind> {
+    let offset = offset_in_memory(&regime.pool, entry).ok_or(FaultKind::WalkAbort)?;
+    let descriptor = read_descriptor(memory, offset, regime.ee);
+    let limit = output_limit(regime.output_code);
+    match Found::of(regime.granule, level, descriptor) {
+        Found::Nothing => Err(FaultKind::Translation),
+        Found::Table(address) | Found::Leaf(address) if address >= limit => {
+            Err(FaultKind::AddressSize)
+        }
+        found => Ok((found, descriptor, offset)),
+    }
+}
+
 /// RULES 6.1 to 6.5: from an address to its leaf. Each descriptor address is
 /// put on the list before the pool is asked for it.
 pub fn find_leaf(
@@ -341,52 +351,32 @@ pub fn find_leaf(
     address: u64,
     visited: &mut Vec<u64>,
 ) -> Result<(Leaf, usize), Stop> {
-    let stop = |kind, level| Err(Stop { kind, level });
     let range = range_of(regime, address)?;
-    let limit = output_limit(regime.output_code);
+    let granule = regime.granule;
 
     // 6.2.
-    let mut level = first_level(range.t);
+    let mut level = granule.first_level(range.t);
     let mut table = range.root;
     let mut taken = 0;
     loop {
-        let picked = address >> lowest_index_bit(level);
-        let index = picked & ((1 << index_bits(range.t, level)) - 1);
-        let entry = table + 8 * index;
+        let entry = table + 8 * granule.index(range.t, level, address);
         visited.push(entry);
-
-        // 6.3.
-        let Some(offset) = offset_in_memory(&regime.pool, entry) else {
-            return stop(FaultKind::WalkAbort, level);
+        let read = read_entry(memory, regime, level, entry);
+        let (found, descriptor, offset) = read.map_err(|kind| Stop { kind, level })?;
+        let Found::Table(next) = found else {
+            let leaf = Leaf {
+                descriptor,
+                level,
+                taken,
+            };
+            return Ok((leaf, offset));
         };
-        let descriptor = read_descriptor(memory, offset, regime.ee);
-
-        // 6.4 and 6.5.
-        match (descriptor & 3, level) {
-            (3, 0..=2) => {
-                table = descriptor & ADDRESS_FIELD;
-                if table >= limit {
-                    return stop(FaultKind::AddressSize, level);
-                }
-                // 6.11.
-                if !range.hpd {
-                    taken |= descriptor & TAKING_FIELD;
-                }
-                level += 1;
-            }
-            (1, 1 | 2) | (3, 3) => {
-                let leaf = Leaf {
-                    descriptor,
-                    level,
-                    taken,
-                };
-                if leaf_address(&leaf) >= limit {
-                    return stop(FaultKind::AddressSize, level);
-                }
-                return Ok((leaf, offset));
-            }
-            _ => return stop(FaultKind::Translation, level),
+        // 6.11.
+        if !range.hpd {
+            taken |= descriptor & TAKING_FIELD;
         }
+        table = next;
+        level += 1;
     }
 }
 
@@ -461,9 +451,10 @@ pub fn settle(regime: &Regime, access: &Access, leaf: &Leaf, reads: u8) -> (Answ
     if access.kind.changes_data() && writable_clean(regime, leaf) {
         after &= !(1 << AP2);
     }
-    let offset = access.address & ((1 << lowest_index_bit(leaf.level)) - 1);
+    let granule = regime.granule;
+    let offset = access.address & granule.span_mask(leaf.level);
     let success = Success {
-        output: leaf_address(leaf) | offset,
+        output: leaf_address(granule, leaf) | offset,
         attribute: leaf_attribute(regime, before),
         shareability: ((before >> 8) & 3) as u8,
         nonglobal: bit(before, NG),

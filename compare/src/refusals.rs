@@ -1,9 +1,9 @@
 //! When a call is refused (RULES 5): the rows, and the order in which each
 //! call looks at them. That order stands here and nowhere else.
 
+use crate::geometry::{GREATEST_T, LEAST_T, PHYSICAL_LIMIT};
 use crate::reference::{
-    is_device, is_multiple, offset_in_memory, Access, Kind, Pool, Regime, GRANULE, MEMORY_LIMIT,
-    PHYSICAL_LIMIT, POOL_LIMIT,
+    is_device, is_multiple, offset_in_memory, Access, Kind, Regime, MEMORY_LIMIT, POOL_LIMIT,
 };
 
 /// The rows of a call by their numbers, in its order (RULES 5.3).
@@ -79,20 +79,16 @@ impl<'a> Asked<'a> {
 
     fn applies(&self, row: u8) -> bool {
         let of_regime = |row: fn(&Regime) -> bool| self.regime.is_some_and(row);
-        let of_access = |row: fn(&Access) -> bool| self.access.is_some_and(row);
-        let pool = self.regime.map(|regime| &regime.pool);
+        let with_regime = |holds: &dyn Fn(&Regime) -> bool| self.regime.is_some_and(holds);
         match row {
-            1 => pool.is_some_and(|pool| row_1(self.memory_length, pool)),
-            2 => pool.is_some_and(row_2),
+            1 => with_regime(&|regime| row_1(self.memory_length, regime)),
+            2 => of_regime(row_2),
             3 => of_regime(row_3),
             4 => of_regime(row_4),
             5 => of_regime(row_5),
-            6 => of_access(row_6),
-            7 => of_access(row_7),
-            8 => match (pool, self.store) {
-                (Some(pool), Some(address)) => row_8(pool, address),
-                _ => false,
-            },
+            6 => self.access.is_some_and(row_6),
+            7 => with_regime(&|regime| self.access.is_some_and(|access| row_7(regime, access))),
+            8 => with_regime(&|regime| self.store.is_some_and(|store| row_8(regime, store))),
             9 => self.regime.is_none(),
             13 => of_regime(row_13),
             _ => panic!("there is no row {row}"),
@@ -151,18 +147,20 @@ pub fn finds_no_table(regime: &Regime) -> bool {
 // ------------------------------------------------------- the rows (RULES 5.1)
 
 /// The memory and the pool's place in it.
-pub fn row_1(memory_length: usize, pool: &Pool) -> bool {
+pub fn row_1(memory_length: usize, regime: &Regime) -> bool {
+    let (pool, granule) = (&regime.pool, regime.granule.bytes());
     memory_length > MEMORY_LIMIT
-        || !is_multiple(pool.start as u64, GRANULE)
-        || !is_multiple(pool.length as u64, GRANULE)
+        || !is_multiple(pool.start as u64, granule)
+        || !is_multiple(pool.length as u64, granule)
         || pool.length == 0
         || pool.length > POOL_LIMIT
         || pool.start as u128 + pool.length as u128 > memory_length as u128
 }
 
 /// The pool's physical address.
-fn row_2(pool: &Pool) -> bool {
-    !is_multiple(pool.address, GRANULE)
+fn row_2(regime: &Regime) -> bool {
+    let pool = &regime.pool;
+    !is_multiple(pool.address, regime.granule.bytes())
         || u128::from(pool.address) + pool.length as u128 > u128::from(PHYSICAL_LIMIT)
 }
 
@@ -172,15 +170,16 @@ fn row_3(regime: &Regime) -> bool {
         || regime
             .ranges
             .iter()
-            .any(|range| range.t < 16 || range.t > 39)
+            .any(|range| range.t < LEAST_T || range.t > GREATEST_T)
 }
 
 /// Roots; a disabled range counts too.
 fn row_4(regime: &Regime) -> bool {
+    let granule = regime.granule.bytes();
     regime
         .ranges
         .iter()
-        .any(|range| !is_multiple(range.root, GRANULE) || range.root >= PHYSICAL_LIMIT)
+        .any(|range| !is_multiple(range.root, granule) || range.root >= PHYSICAL_LIMIT)
 }
 
 /// Device has four spellings, Normal no empty half.
@@ -201,14 +200,15 @@ fn row_6(access: &Access) -> bool {
 }
 
 /// First and last byte in one page. Of no bytes, the last is the first.
-fn row_7(access: &Access) -> bool {
+fn row_7(regime: &Regime, access: &Access) -> bool {
     let last = access.address.wrapping_add(access.size.saturating_sub(1));
-    access.address / GRANULE != last / GRANULE
+    let page = regime.granule.bytes();
+    access.address / page != last / page
 }
 
 /// A store's address.
-fn row_8(pool: &Pool, address: u64) -> bool {
-    address & 7 != 0 || offset_in_memory(pool, address).is_none()
+fn row_8(regime: &Regime, address: u64) -> bool {
+    address & 7 != 0 || offset_in_memory(&regime.pool, address).is_none()
 }
 
 /// Dirty state management without that of the Access flag.

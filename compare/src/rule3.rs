@@ -2,6 +2,7 @@
 //! here looks into a session: what it remembers is read off its replies.
 
 use crate::boundary::{plain_answer, CAnswer, Reply, REFUSED};
+use crate::geometry::Granule;
 use crate::reference::{look, offset_in_memory, walk, write_descriptor, Access, Regime};
 use crate::refusals;
 use crate::session::{page_of, place_of, Call};
@@ -39,11 +40,11 @@ impl Event {
         }
     }
 
-    /// The page and the count of an access that may be remembered.
+    /// The address and the count of an access that may be remembered.
     pub fn rememberable(&self) -> Option<(u64, u8)> {
         match (self.call, self.reply) {
             (Call::Access(access), Reply::Answered(answer)) if answer.cacheable != 0 => {
-                Some((page_of(access.address), answer.reads))
+                Some((access.address, answer.reads))
             }
             _ => None,
         }
@@ -242,25 +243,36 @@ impl<'a> Past<'a> {
         self.last_emptying().map_or(0, |at| at + 1)..self.events.len()
     }
 
-    /// Rememberable accesses at a page's place since the last emptying, the
-    /// last one first, each with its page and count.
-    fn rememberable_at(&self, page: u64) -> impl Iterator<Item = (usize, u64, u8)> + 'a {
-        let events = self.events;
+    /// The granule by which pages are told apart since the last emptying; any,
+    /// where there is no regime and nothing is remembered.
+    pub fn granule(&self) -> Granule {
+        self.regime().map_or(Granule::Kib4, |regime| regime.granule)
+    }
+
+    /// Rememberable accesses at the place of an address since the last
+    /// emptying, the last one first, each with its page and count.
+    fn rememberable_at(&self, address: u64) -> impl Iterator<Item = (usize, u64, u8)> + 'a {
+        let (events, granule) = (self.events, self.granule());
+        let place = place_of(page_of(granule, address));
         self.since_emptying().rev().filter_map(move |at| {
             let (other, reads) = events[at].rememberable()?;
-            (place_of(other) == place_of(page)).then_some((at, other, reads))
+            let page = page_of(granule, other);
+            (place_of(page) == place).then_some((at, page, reads))
         })
     }
 
-    /// Whether the last rememberable access at its place was of this page.
-    pub fn remembers(&self, page: u64) -> bool {
-        let last = self.rememberable_at(page).next();
-        last.is_some_and(|(_, other, _)| other == page)
+    /// Whether the last rememberable access at its place was of the page of
+    /// an address.
+    pub fn remembers(&self, address: u64) -> bool {
+        let last = self.rememberable_at(address).next();
+        last.is_some_and(|(_, page, _)| page == page_of(self.granule(), address))
     }
 
-    /// The last rememberable access at a page's place that read something.
-    pub fn last_walk_at(&self, page: u64) -> Option<usize> {
-        let mut walks = self.rememberable_at(page).filter(|(.., reads)| *reads > 0);
+    /// The last rememberable access at the place of an address that read
+    /// something.
+    pub fn last_walk_at(&self, address: u64) -> Option<usize> {
+        let all = self.rememberable_at(address);
+        let mut walks = all.filter(|(.., reads)| *reads > 0);
         walks.next().map(|(at, ..)| at)
     }
 
@@ -299,14 +311,14 @@ impl<'a> Past<'a> {
             };
             return Ok(Some((Class::NoRegime, refused)));
         };
-        let page = page_of(access.address);
-        let mut class = match self.rememberable_at(page).next() {
+        let page = page_of(regime.granule, access.address);
+        let mut class = match self.rememberable_at(access.address).next() {
             None => Class::Nothing,
             Some((_, other, _)) if other != page => Class::OtherPage,
             Some(_) => Class::OneAnswer,
         };
         if class == Class::OneAnswer {
-            let walked = self.last_walk_at(page);
+            let walked = self.last_walk_at(access.address);
             let earlier = walked.ok_or("second half: remembered, and never walked")?;
             if self.events[earlier].lent != memory.len() {
                 return Ok(None);

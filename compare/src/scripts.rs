@@ -3,6 +3,7 @@
 mod calls;
 mod features;
 mod foreign;
+mod granules;
 mod opening;
 mod orders;
 mod play;
@@ -17,7 +18,7 @@ pub(crate) use play::Arena;
 use play::Play;
 pub use tally::Tally;
 
-const SCRIPTS: u64 = 6_000;
+const SCRIPTS: u64 = 7_200;
 /// Calls of a script; over the longest memories there are fewer.
 const CALLS: usize = 40;
 

@@ -1,17 +1,23 @@
 //! The session (RULES 10): a regime and 64 places that remember leaves, on top
 //! of the second walker. A place is what RULES calls an entry.
 
+use crate::geometry::Granule;
 use crate::reference::{
     offset_in_memory, read_descriptor, settle, walk_on, write_descriptor, Access, Answer, Leaf,
-    Regime, Walk, GRANULE,
+    Regime, Walk,
 };
 use crate::refusals;
 
 pub const PLACES: usize = 64;
 
-/// Bits 63..12 of an address.
-pub fn page_of(address: u64) -> u64 {
-    address / GRANULE
+/// Bits 63 of an address down to the granule.
+pub fn page_of(granule: Granule, address: u64) -> u64 {
+    address / granule.bytes()
+}
+
+/// The first address of a page; of a number that no page has, its lower bits.
+pub fn first_of(granule: Granule, page: u64) -> u64 {
+    page.wrapping_mul(granule.bytes())
 }
 
 /// The place of a page: its number mod 64.
@@ -79,7 +85,7 @@ impl Session {
             Err(number) => return (Answer::Refused(number), Way::Refused),
         };
 
-        let page = page_of(access.address);
+        let page = page_of(regime.granule, access.address);
         let place = &mut self.places[place_of(page)];
         let held = place.filter(|held| held.page == page);
         if let Some(held) = held {

@@ -5,12 +5,14 @@ use crate::boundary::{CAnswer, FAULT, REFUSED, SUCCESS};
 use crate::cases::Case;
 use crate::counts::{report_families, Countable, Counts};
 use crate::decisions::{decided, succeeds, Decision};
-use crate::limits::{self, Limit, Octave, POOL_GRANULES};
+use crate::geometry::{Granule, LAST_LEVEL, PHYSICAL_LIMIT};
+use crate::granules::{self, Granular};
+use crate::limits::{self, longest_pool, Limit, Octave};
 use crate::orders::{self, with_each_order, Ordered, Turn};
 use crate::reference::{
-    bit, first_level, is_device, leaf_address, offset_in_memory, output_limit, read_descriptor,
-    writable_clean, Access, Answer, FaultKind, Kind, Leaf, Pool, Regime, Walk, ADDRESS_FIELD,
-    AP_TABLE_1, GRANULE, MEMORY_LIMIT, POOL_LIMIT, TAKING, TAKING_FIELD,
+    bit, is_device, leaf_address, offset_in_memory, output_limit, read_descriptor, writable_clean,
+    Access, Answer, FaultKind, Found, Kind, Leaf, Pool, Regime, Walk, AP_TABLE_1, MEMORY_LIMIT,
+    POOL_LIMIT, TAKING, TAKING_FIELD,
 };
 use crate::refusals::{all_of_walk, pairs, WALK};
 use std::collections::{BTreeMap, BTreeSet};
@@ -112,46 +114,44 @@ pub enum Feature {
     Code(u16),
     /// A fault of RULES 6.1, which reads nothing.
     AtOnce(FaultKind),
-    /// First level and level of a fault met on the way.
-    Fault(FaultKind, u8, u8),
-    /// First level and level of a success.
-    Success(u8, u8),
     Reads(u8, u8),
     Marks(Kind, bool, bool),
     Rememberable(End, bool),
     /// Kind and EL0 or EL1, for the ends that depend on them.
     Asked(End, Kind, bool),
-    /// Success by range and size field.
-    SizeField(usize, u8),
     OutputCode(End, u8),
     /// Table read or output page just below the output size's end.
-    Below(Held, u8),
+    Below(Granule, Held, u8),
     /// Address size fault just at it.
-    At(Held, u8),
+    At(Granule, Held, u8),
     /// Success by attribute index; true for Device.
     Attribute(u8, bool),
     Shareability(u8),
     NonGlobal(bool),
     /// Success by the pool's length in granules.
-    Granules(u64),
+    Granules(Granule, u64),
     /// A table descriptor on the way to a success, by its place in the pool.
     Table(Octave),
     /// A marked leaf, by its place in the pool.
     Marked(Octave),
     /// The same by its place in the memory.
     MarkedInMemory(Octave),
-    Limit(Limit),
+    Limit(Granule, Limit),
     Decided(Decision),
     /// First level, and level of the one table that has a bit which decides.
-    OneTable(u8, u8, u32),
+    OneTable(Granule, u8, u8, u32),
     /// Tables that have a bit which no other on the way has.
     AddUp(usize),
-    Hpd(usize, Hpd),
+    Hpd(Granule, usize, Hpd),
     /// A leaf that would be writable-clean but for bit 62 of a table.
     CleanTaken(Kind, bool),
     /// Under a regime with EE or without.
     Ordered(bool, Ordered),
-    Place(Place),
+    /// Under a regime of a granule.
+    Granular(Granule, Granular),
+    /// Success by the byte that says the granule.
+    Byte(u8),
+    Place(Granule, Place),
 }
 
 use Feature as F;
@@ -164,24 +164,21 @@ impl Countable for Feature {
             F::FirstRow(..) => "refusals before another row that applies",
             F::Code(_) => "fault codes",
             F::AtOnce(_) => "faults before any read",
-            F::Fault(..) => "faults by first level > level",
-            F::Success(..) => "successes by first level > level",
             F::Reads(..) => "reads",
             F::Marks(..) => "marks",
             F::Rememberable(..) => "may be remembered",
             F::Asked(..) => "ends by access",
-            F::SizeField(..) => "successes by range and T",
             F::OutputCode(..) => "ends by output code",
             F::Below(..) => "last granule within the output size, by code",
             F::At(..) => "first granule beyond the output size, by code",
             F::Attribute(..) => "successes by attribute index",
             F::Shareability(_) => "successes by shareability",
             F::NonGlobal(_) => "successes by nG",
-            F::Granules(_) => "successes by granules in the pool",
-            F::Table(_) => "tables followed, by granule of the pool",
-            F::Marked(_) => "leaves marked, by granule of the pool",
-            F::MarkedInMemory(_) => "leaves marked, by granule of the memory",
-            F::Limit(_) => "limits of memory and pool",
+            F::Granules(..) => "successes by granules in the pool",
+            F::Table(_) => "tables followed, by 4 KiB of the pool",
+            F::Marked(_) => "leaves marked, by 4 KiB of the pool",
+            F::MarkedInMemory(_) => "leaves marked, by 4 KiB of the memory",
+            F::Limit(..) => "limits of memory and pool",
             F::Decided(_) => "ends that a bit of a table decides",
             F::OneTable(..) => "the same where one table has it, by first level > level",
             F::AddUp(_) => "sums by how many tables they need",
@@ -189,7 +186,9 @@ impl Countable for Feature {
             F::CleanTaken(..) => "writes to clean leaves under bit 62",
             F::Ordered(true, _) => "with EE",
             F::Ordered(false, _) => "without EE",
-            F::Place(_) => "places",
+            F::Granular(granule, _) => under(*granule),
+            F::Byte(_) => "successes by the granule's byte",
+            F::Place(..) => "places",
         }
     }
 
@@ -200,8 +199,18 @@ impl Countable for Feature {
     fn least(&self) -> u64 {
         match self {
             F::Ordered(..) => orders::LEAST,
+            F::Granular(..) => granules::LEAST,
             _ => 1,
         }
+    }
+}
+
+/// The heading of what is met under a granule.
+pub fn under(granule: Granule) -> &'static str {
+    match granule {
+        Granule::Kib4 => "with 4 KiB",
+        Granule::Kib16 => "with 16 KiB",
+        Granule::Kib64 => "with 64 KiB",
     }
 }
 
@@ -247,34 +256,37 @@ impl fmt::Display for Feature {
             F::FirstRow(number, other) => write!(out, "{number} before {other}"),
             F::Code(code) => write!(out, "code {code}"),
             F::AtOnce(kind) => write!(out, "{kind:?}"),
-            F::Fault(kind, first, level) => write!(out, "{kind:?} {first}>{level}"),
-            F::Success(first, level) => write!(out, "{first}>{level}"),
             F::Reads(tag, count) => write!(out, "{} {count}", tag_name(tag)),
             F::Marks(kind, accessed, dirtied) => {
                 write!(out, "{kind:?} {}", marks_name(accessed, dirtied))
             }
             F::Rememberable(end, yes) => write!(out, "{end} {}", if yes { "yes" } else { "no" }),
             F::Asked(end, kind, el0) => write!(out, "{end} {} {kind:?}", level_name(el0)),
-            F::SizeField(range, t) => write!(out, "{range}:{t}"),
             F::OutputCode(end, code) => write!(out, "{end} {code}"),
-            F::Below(held, code) | F::At(held, code) => write!(out, "{held:?} {code}"),
+            F::Below(granule, held, code) | F::At(granule, held, code) => {
+                write!(out, "{granule} {held:?} {code}")
+            }
             F::Attribute(index, device) => {
                 write!(out, "{index} {}", if device { "Device" } else { "Normal" })
             }
             F::Shareability(value) => write!(out, "{value}"),
             F::NonGlobal(value) => write!(out, "{}", u8::from(value)),
-            F::Granules(count) => write!(out, "{count}"),
+            F::Granules(granule, count) => write!(out, "{granule} {count}"),
             F::Table(octave) | F::Marked(octave) | F::MarkedInMemory(octave) => {
                 write!(out, "{octave}")
             }
-            F::Limit(limit) => write!(out, "{limit:?}"),
+            F::Limit(granule, limit) => write!(out, "{granule} {limit:?}"),
             F::Decided(decision) => write!(out, "{decision}"),
-            F::OneTable(first, level, bit) => write!(out, "{bit} {first}>{level}"),
+            F::OneTable(granule, first, level, bit) => {
+                write!(out, "{granule} {bit} {first}>{level}")
+            }
             F::AddUp(count) => write!(out, "{count}"),
-            F::Hpd(range, which) => write!(out, "{range} {which:?}"),
+            F::Hpd(granule, range, which) => write!(out, "{granule} {range} {which:?}"),
             F::CleanTaken(kind, el0) => write!(out, "{} {kind:?}", level_name(el0)),
             F::Ordered(_, what) => write!(out, "{what}"),
-            F::Place(place) => write!(out, "{place:?}"),
+            F::Granular(_, what) => write!(out, "{what}"),
+            F::Byte(byte) => write!(out, "{byte}"),
+            F::Place(granule, place) => write!(out, "{granule} {place:?}"),
         }
     }
 }
@@ -285,36 +297,47 @@ fn possible() -> BTreeSet<Feature> {
     all.extend([SUCCESS, FAULT, REFUSED].map(F::Tag));
     all.extend(WALK.iter().copied().map(F::Refusal));
     all.extend(pairs(WALK).map(|(row, other)| F::FirstRow(row, other)));
+    faults(&mut all);
+    accesses(&mut all);
+    rememberable(&mut all);
+    outputs(&mut all);
+    for index in 0..8 {
+        all.insert(F::Attribute(index, false));
+        all.insert(F::Attribute(index, true));
+    }
+    all.extend((0..4).map(F::Shareability));
+    all.extend([false, true].map(F::NonGlobal));
+    lengths(&mut all);
+    tables(&mut all);
+    all.extend(with_each_order(Ordered::all()).map(|(ee, what)| F::Ordered(ee, what)));
+    all.extend((0..=0xFF).map(F::Byte));
+    for granule in Granule::ALL {
+        let granular = Granular::all(granule).into_iter();
+        all.extend(granular.map(|what| F::Granular(granule, what)));
+        all.extend(Place::ALL.map(|place| F::Place(granule, place)));
+    }
+    all
+}
 
+/// Codes, and counts of reads.
+fn faults(all: &mut BTreeSet<Feature>) {
     // Two faults come before any read; leaves are at levels 1 to 3 only.
     all.insert(F::AtOnce(FaultKind::Translation));
     all.insert(F::AtOnce(FaultKind::AddressSize));
-    for first in 0..=2 {
-        for level in first..=3 {
-            let reads = level - first + 1;
-            for (kind, base) in [
-                (FaultKind::AddressSize, 0),
-                (FaultKind::Translation, 4),
-                (FaultKind::WalkAbort, 20),
-            ] {
-                all.insert(F::Fault(kind, first, level));
-                all.insert(F::Code(base + u16::from(level)));
-            }
-            if level > 0 {
-                for (kind, base) in [(FaultKind::AccessFlag, 8), (FaultKind::Permission, 12)] {
-                    all.insert(F::Fault(kind, first, level));
-                    all.insert(F::Code(base + u16::from(level)));
-                }
-                all.insert(F::Fault(FaultKind::Alignment, first, level));
-                all.insert(F::Success(first, level));
-                all.insert(F::Reads(SUCCESS, reads));
-            }
-            all.insert(F::Reads(FAULT, reads));
-        }
-    }
     all.insert(F::Code(33));
     all.insert(F::Reads(FAULT, 0));
+    for level in 0..=u16::from(LAST_LEVEL) {
+        all.extend([0, 4, 20].map(|base| F::Code(base + level)));
+        if level > 0 {
+            all.extend([8, 12].map(|base| F::Code(base + level)));
+        }
+        let reads = level as u8 + 1;
+        all.extend([SUCCESS, FAULT].map(|tag| F::Reads(tag, reads)));
+    }
+}
 
+/// What depends on the kind of an access.
+fn accesses(all: &mut BTreeSet<Feature>) {
     for kind in Kind::ALL {
         all.insert(F::Marks(kind, false, false));
         if !kind.is_probe() {
@@ -336,7 +359,10 @@ fn possible() -> BTreeSet<Feature> {
             all.insert(F::Asked(End::Fault(FaultKind::AccessFlag), kind, el0));
         }
     }
+}
 
+/// What may be remembered, and what not.
+fn rememberable(all: &mut BTreeSet<Feature>) {
     // A probe can succeed and leave AF 0.
     for end in [
         End::Success,
@@ -354,18 +380,18 @@ fn possible() -> BTreeSet<Feature> {
     ] {
         all.insert(F::Rememberable(End::Fault(kind), false));
     }
+}
 
-    for t in 16..=39 {
-        all.insert(F::SizeField(0, t));
-        all.insert(F::SizeField(1, t));
-    }
+/// What depends on the output size.
+fn outputs(all: &mut BTreeSet<Feature>) {
+    let held = [Held::Root, Held::Table, Held::Leaf];
     for code in 0..=5 {
         all.insert(F::OutputCode(End::Success, code));
-        for held in [Held::Root, Held::Table, Held::Leaf] {
-            all.insert(F::Below(held, code));
+        for granule in Granule::ALL {
+            all.extend(held.map(|held| F::Below(granule, held, code)));
             // No address passes 48 bits.
             if code < 5 {
-                all.insert(F::At(held, code));
+                all.extend(held.map(|held| F::At(granule, held, code)));
             }
         }
         if code < 5 {
@@ -373,30 +399,21 @@ fn possible() -> BTreeSet<Feature> {
             all.insert(F::OutputCode(end, code));
         }
     }
-    for index in 0..8 {
-        all.insert(F::Attribute(index, false));
-        all.insert(F::Attribute(index, true));
-    }
-    all.extend((0..4).map(F::Shareability));
-    all.extend([false, true].map(F::NonGlobal));
-    lengths(&mut all);
-    tables(&mut all);
-    all.extend(with_each_order(Ordered::all()).map(|(ee, what)| F::Ordered(ee, what)));
-    all.extend(Place::ALL.map(F::Place));
-    all
 }
 
 /// What has to do with the bits of the tables on the way.
 fn tables(all: &mut BTreeSet<Feature>) {
     all.extend(Decision::all().map(F::Decided));
-    for first in 0..=2 {
-        for level in first..=2 {
-            all.extend(TAKING.map(|bit| F::OneTable(first, level, bit)));
-        }
-    }
     all.extend([2, 3].map(F::AddUp));
-    for range in 0..2 {
-        all.extend([Hpd::Own, Hpd::Other].map(|which| F::Hpd(range, which)));
+    for granule in Granule::ALL {
+        for &(first, ..) in granule.first_levels() {
+            for level in first..LAST_LEVEL {
+                all.extend(TAKING.map(|bit| F::OneTable(granule, first, level, bit)));
+            }
+        }
+        for range in 0..2 {
+            all.extend([Hpd::Own, Hpd::Other].map(|which| F::Hpd(granule, range, which)));
+        }
     }
     for el0 in [false, true] {
         let writes = [Kind::Write, Kind::Update, Kind::ProbeWrite];
@@ -406,14 +423,13 @@ fn tables(all: &mut BTreeSet<Feature>) {
 
 /// What has to do with the lengths of memory and pool.
 fn lengths(all: &mut BTreeSet<Feature>) {
-    all.extend((1..=POOL_GRANULES).map(F::Granules));
     all.extend(Octave::all(POOL_LIMIT).map(F::Table));
     all.extend(Octave::all(POOL_LIMIT).map(F::Marked));
     all.extend(Octave::all(MEMORY_LIMIT).map(F::MarkedInMemory));
-    all.extend(Limit::KEPT.map(F::Limit));
-    all.extend(Limit::OF_MEMORY.map(F::Limit));
-    all.extend(Limit::OF_POOL.map(F::Limit));
-    all.extend(Limit::OF_ADDRESS.map(F::Limit));
+    for granule in Granule::ALL {
+        all.extend((1..=longest_pool(granule)).map(|count| F::Granules(granule, count)));
+        all.extend(Limit::all().map(|limit| F::Limit(granule, limit)));
+    }
 }
 
 #[derive(Default)]
@@ -439,12 +455,13 @@ impl Tally {
         if answer.tag == FAULT {
             self.meet(F::Code(answer.code));
         }
+        let granule = regime.granule;
         self.meet(F::Reads(answer.tag, answer.reads));
-        if before.len() as u64 == GRANULE {
-            self.meet(F::Place(Place::ShortestMemory));
+        if before.len() == granule.length() {
+            self.meet(F::Place(granule, Place::ShortestMemory));
         }
         for limit in limits::kept(before.len(), &regime.pool) {
-            self.meet(F::Limit(limit));
+            self.meet(F::Limit(granule, limit));
         }
 
         let end = match walk.answer {
@@ -456,48 +473,51 @@ impl Tally {
             self.meet(F::Asked(end, access.kind, access.el0));
             self.note_tables(case, before, walk, &leaf);
         }
-        let range = usize::from(bit(access.address, 55));
-        let t = regime.ranges[range].t;
         match end {
             End::Success => {
-                self.meet(F::Success(first_level(t), answer.level));
-                self.meet(F::SizeField(range, t));
                 self.note_success(regime, access, walk, answer);
-                if case.spelling.truth != 1 {
-                    self.meet(F::Place(Place::OddTruth));
-                }
-                let odd = access.kind == Kind::Update && case.spelling.update > 5;
-                if odd && answer.dirtied != 0 {
-                    self.meet(F::Place(Place::OddKind));
-                }
+                self.note_spelling(case, answer);
             }
             End::Fault(kind) => {
-                if answer.reads == 0 {
-                    self.meet(F::AtOnce(kind));
-                } else {
-                    self.meet(F::Fault(kind, first_level(t), answer.level));
-                }
+                let range = usize::from(bit(access.address, 55));
                 self.note_fault(regime, range, before, walk, kind);
             }
         }
     }
 
-    /// Its family, and what it meets with EE or without.
+    /// How the numbers of a success are spelled.
+    fn note_spelling(&mut self, case: &Case, answer: &CAnswer) {
+        let (regime, spelling) = (case.regime, case.spelling);
+        self.meet(F::Byte(spelling.regime(regime).granule));
+        if spelling.truth != 1 {
+            self.meet(F::Place(regime.granule, Place::OddTruth));
+        }
+        let odd = case.access.kind == Kind::Update && spelling.update > 5;
+        if odd && answer.dirtied != 0 {
+            self.meet(F::Place(regime.granule, Place::OddKind));
+        }
+    }
+
+    /// Its family, and what it meets with EE or without, and with its granule.
     fn note_case(&mut self, case: &Case, before: &[u8], walk: &Walk) {
         *self.families.entry(case.family).or_default() += 1;
+        let granule = case.regime.granule;
         let odd = case.regime.ee && case.spelling.truth != 1;
         for what in Ordered::of(before, case.regime, case.access, walk) {
             self.meet(F::Ordered(case.regime.ee, what));
             if odd && what == Ordered::Turn(Turn::ThisAlone) {
-                self.meet(F::Place(Place::OddEe));
+                self.meet(F::Place(granule, Place::OddEe));
             }
+        }
+        for what in Granular::of(before, case.regime, case.access, walk) {
+            self.meet(F::Granular(granule, what));
         }
     }
 
     fn note_refusal(&mut self, length: usize, regime: &Regime, access: &Access, number: u8) {
         self.meet(F::Refusal(number));
-        if let (1, Some(limit)) = (number, limits::passed(length, &regime.pool)) {
-            self.meet(F::Limit(limit));
+        if let (1, Some(limit)) = (number, limits::passed(length, regime)) {
+            self.meet(F::Limit(regime.granule, limit));
         }
         for other in all_of_walk(length, regime, access).skip(1) {
             self.meet(F::FirstRow(number, other));
@@ -505,8 +525,7 @@ impl Tally {
     }
 
     fn note_success(&mut self, regime: &Regime, access: &Access, walk: &Walk, answer: &CAnswer) {
-        let code = regime.output_code;
-        let last_granule = output_limit(code) - GRANULE;
+        let (code, granule) = (regime.output_code, regime.granule);
         self.meet(F::Marks(
             access.kind,
             answer.accessed != 0,
@@ -515,50 +534,42 @@ impl Tally {
         self.meet(F::OutputCode(End::Success, code));
         self.meet(F::Shareability(answer.shareability));
         self.meet(F::NonGlobal(answer.nonglobal != 0));
-        self.meet(F::Granules(regime.pool.length as u64 / GRANULE));
-        self.note_places(&regime.pool, walk, answer);
+        self.meet(F::Granules(
+            granule,
+            regime.pool.length as u64 / granule.bytes(),
+        ));
+        self.note_reach(regime, walk, answer);
+        self.note_below(regime, walk);
         if let Some((leaf, _)) = walk.leaf {
             let index = (leaf.descriptor >> 2 & 7) as u8;
             self.meet(F::Attribute(index, is_device(answer.attribute)));
-            // The last leaf of its size below the limit.
-            let span = 1 << (39 - 9 * u32::from(leaf.level));
-            if leaf_address(&leaf) + span == output_limit(code) {
-                self.meet(F::Below(Held::Leaf, code));
+        }
+        for place in places(&regime.pool, access, walk) {
+            self.meet(F::Place(granule, place));
+        }
+    }
+
+    /// Tables and leaves that are the last ones within the output size.
+    fn note_below(&mut self, regime: &Regime, walk: &Walk) {
+        let (code, granule) = (regime.output_code, regime.granule);
+        let limit = output_limit(code);
+        if let Some((leaf, _)) = walk.leaf {
+            // The last leaf of its size.
+            if leaf_address(granule, &leaf) + granule.span_mask(leaf.level) == limit - 1 {
+                self.meet(F::Below(granule, Held::Leaf, code));
             }
         }
         for (step, entry) in walk.visited.iter().enumerate() {
-            if entry & !(GRANULE - 1) == last_granule {
+            if granule.floor(*entry) == limit - granule.bytes() {
                 let held = if step == 0 { Held::Root } else { Held::Table };
-                self.meet(F::Below(held, code));
+                self.meet(F::Below(granule, held, code));
             }
-        }
-        let pool = &regime.pool;
-        let pool_end = pool.address + pool.length as u64;
-        if let Some(&entry) = walk.visited.last() {
-            if entry == pool.address {
-                self.meet(F::Place(Place::FirstOfPool));
-            }
-            if entry + 8 == pool_end {
-                self.meet(F::Place(Place::LastOfPool));
-            }
-        }
-        let different: BTreeSet<u64> = walk.visited.iter().copied().collect();
-        if different.len() < walk.visited.len() {
-            self.meet(F::Place(Place::ReadTwice));
-        }
-        if access.address == u64::MAX {
-            self.meet(F::Place(Place::AllOnes));
-        }
-        if pool.address == 0 {
-            self.meet(F::Place(Place::PoolAtZero));
-        }
-        if pool_end == 1 << 48 {
-            self.meet(F::Place(Place::PoolAtTop));
         }
     }
 
     /// How far up a success has read and marked.
-    fn note_places(&mut self, pool: &Pool, walk: &Walk, answer: &CAnswer) {
+    fn note_reach(&mut self, regime: &Regime, walk: &Walk, answer: &CAnswer) {
+        let pool = &regime.pool;
         let Some((&leaf, tables)) = walk.visited.split_last() else {
             return;
         };
@@ -570,7 +581,7 @@ impl Tally {
             self.meet(F::Marked(Octave::of(offset(leaf))));
             self.meet(F::MarkedInMemory(Octave::of(pool.start + offset(leaf))));
             if limits::is_last(pool, leaf) {
-                self.meet(F::Limit(Limit::LastOfPool));
+                self.meet(F::Limit(regime.granule, Limit::LastOfPool));
             }
         }
     }
@@ -578,6 +589,7 @@ impl Tally {
     /// What the tables on the way to a leaf take away, and what they do not.
     fn note_tables(&mut self, case: &Case, before: &[u8], walk: &Walk, leaf: &Leaf) {
         let (regime, access) = (case.regime, case.access);
+        let granule = regime.granule;
         let range = usize::from(bit(access.address, 55));
         let tables = tables_of(before, regime, walk);
         let all = tables.iter().fold(0, |sum, table| sum | table);
@@ -587,24 +599,24 @@ impl Tally {
         };
         if regime.ranges[range].hpd {
             if decides(all & TAKING_FIELD) {
-                self.meet(F::Hpd(range, Hpd::Own));
+                self.meet(F::Hpd(granule, range, Hpd::Own));
                 if case.spelling.truth != 1 {
-                    self.meet(F::Place(Place::OddHpd));
+                    self.meet(F::Place(granule, Place::OddHpd));
                 }
             }
         } else {
             self.note_sum(regime, access, walk, leaf, &tables);
         }
         if bit(all, 63) && all & TAKING_FIELD == 0 {
-            self.meet(F::Place(Place::Bit63));
+            self.meet(F::Place(granule, Place::Bit63));
         }
         if decides(leaf.taken | leaf.descriptor & TAKING_FIELD) {
-            self.meet(F::Place(Place::OwnBits));
-            let granule = |entry: &u64| entry / GRANULE;
-            let mut granules = walk.visited.iter().rev().map(granule);
-            let own = granules.next();
-            if granules.any(|other| Some(other) == own) {
-                self.meet(F::Place(Place::OwnBitsInTable));
+            self.meet(F::Place(granule, Place::OwnBits));
+            let table = |entry: &u64| granule.floor(*entry);
+            let mut tables = walk.visited.iter().rev().map(table);
+            let own = tables.next();
+            if tables.any(|other| Some(other) == own) {
+                self.meet(F::Place(granule, Place::OwnBitsInTable));
             }
         }
     }
@@ -619,19 +631,20 @@ impl Tally {
         tables: &[u64],
     ) {
         let range = usize::from(bit(access.address, 55));
-        let first = first_level(regime.ranges[range].t);
+        let granule = regime.granule;
+        let first = granule.first_level(regime.ranges[range].t);
         let only_table = |place| only_table(first, tables, place);
         for decision in decided(regime, access, leaf) {
             self.meet(F::Decided(decision));
             if let Some(level) = only_table(decision.bit) {
-                self.meet(F::OneTable(first, level, decision.bit));
+                self.meet(F::OneTable(granule, first, level, decision.bit));
             }
             if regime.ranges[1 - range].hpd {
-                self.meet(F::Hpd(range, Hpd::Other));
+                self.meet(F::Hpd(granule, range, Hpd::Other));
             }
             if let Some((last, others)) = walk.visited.split_last() {
                 if others.contains(last) {
-                    self.meet(F::Place(Place::LeafAndTable));
+                    self.meet(F::Place(granule, Place::LeafAndTable));
                 }
             }
         }
@@ -654,13 +667,16 @@ impl Tally {
         walk: &Walk,
         kind: FaultKind,
     ) {
+        if walk.visited.is_empty() {
+            self.meet(F::AtOnce(kind));
+        }
         match kind {
             FaultKind::AddressSize => {
                 let code = regime.output_code;
                 self.meet(F::OutputCode(End::Fault(kind), code));
                 let (held, address) = address_beyond(regime, range, before, walk);
                 if address == output_limit(code) {
-                    self.meet(F::At(held, code));
+                    self.meet(F::At(regime.granule, held, code));
                 }
             }
             FaultKind::WalkAbort => self.note_abort(regime, before, walk),
@@ -673,22 +689,22 @@ impl Tally {
         let Some(&entry) = walk.visited.last() else {
             return;
         };
-        let pool = &regime.pool;
+        let (pool, granule) = (&regime.pool, regime.granule);
         let looks_valid = |offset: usize| {
             offset + 8 <= before.len() && read_descriptor(before, offset, regime.ee) & 1 == 1
         };
         let behind = pool.start + pool.length;
         if entry == pool.address + pool.length as u64 && looks_valid(behind) {
-            self.meet(F::Place(Place::BehindPool));
+            self.meet(F::Place(granule, Place::BehindPool));
             if limits::is_behind(pool, entry) {
-                self.meet(F::Limit(Limit::BehindPool));
+                self.meet(F::Limit(granule, Limit::BehindPool));
             }
         }
         if entry.checked_add(8) == Some(pool.address)
             && pool.start >= 8
             && looks_valid(pool.start - 8)
         {
-            self.meet(F::Place(Place::BeforePool));
+            self.meet(F::Place(granule, Place::BeforePool));
         }
     }
 
@@ -705,6 +721,25 @@ impl Tally {
     pub fn strangers(&self) -> Vec<Feature> {
         self.met.strangers()
     }
+}
+
+/// The places that a success is at.
+fn places(pool: &Pool, access: &Access, walk: &Walk) -> impl Iterator<Item = Place> {
+    let pool_end = pool.address + pool.length as u64;
+    let leaf = walk.visited.last().copied();
+    let different: BTreeSet<u64> = walk.visited.iter().copied().collect();
+    let at = [
+        (Place::FirstOfPool, leaf == Some(pool.address)),
+        (
+            Place::LastOfPool,
+            leaf.map(|leaf| leaf + 8) == Some(pool_end),
+        ),
+        (Place::ReadTwice, different.len() < walk.visited.len()),
+        (Place::AllOnes, access.address == u64::MAX),
+        (Place::PoolAtZero, pool.address == 0),
+        (Place::PoolAtTop, pool_end == PHYSICAL_LIMIT),
+    ];
+    at.into_iter().filter_map(|(place, at)| at.then_some(place))
 }
 
 /// The table descriptors on the way to a leaf.
@@ -738,16 +773,11 @@ fn address_beyond(regime: &Regime, range: usize, before: &[u8], walk: &Walk) -> 
         return (Held::Root, regime.ranges[range].root);
     };
     let descriptor = read_descriptor(before, offset, regime.ee);
-    let first = first_level(regime.ranges[range].t);
+    let first = regime.granule.first_level(regime.ranges[range].t);
     let level = first + walk.visited.len() as u8 - 1;
-    if level < 3 && descriptor & 3 == 3 {
-        (Held::Table, descriptor & ADDRESS_FIELD)
-    } else {
-        let leaf = Leaf {
-            descriptor,
-            level,
-            taken: 0,
-        };
-        (Held::Leaf, leaf_address(&leaf))
+    match Found::of(regime.granule, level, descriptor) {
+        Found::Table(address) => (Held::Table, address),
+        Found::Leaf(address) => (Held::Leaf, address),
+        Found::Nothing => panic!("no address in {descriptor:#x}"),
     }
 }

@@ -1,6 +1,7 @@
 //! The worked cases, P1 to P12 (RULES 12), held against the reference, and a
 //! check that the cases meet all they should.
 
+mod granules;
 mod limits;
 mod orders;
 mod refusals;
@@ -12,6 +13,7 @@ mod vectors;
 
 use crate::boundary::{plain_answer, CAnswer};
 use crate::cases::{run_all, Case, Runner};
+use crate::geometry::Granule;
 use crate::reference::{self, walk, Access, Answer, Kind, Pool, Range, Regime, Success, Walk};
 use crate::tally::Tally;
 use crate::{bare, promises, reversed};
@@ -54,6 +56,7 @@ fn start() -> (Vec<u8>, Regime) {
         hd: true,
         wxn: false,
         ee: false,
+        granule: Granule::Kib4,
         attributes: [0xFF; 8],
     };
     (memory, regime)

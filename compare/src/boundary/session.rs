@@ -1,6 +1,6 @@
 //! The session: its struct, its functions, and what they must leave of it.
 
-use super::{bytes, bytes_mut, scribbled, CAccess, CAnswer, CRegime, Plain, Spelling};
+use super::{bytes, bytes_mut, granule_of, scribbled, CAccess, CAnswer, CRegime, Plain, Spelling};
 use crate::random::Random;
 use crate::reference::{Access, Leaf, Regime, PXN_TABLE, TAKING_FIELD};
 use crate::session::{page_of, place_of, Call, Held, Session, PLACES};
@@ -226,7 +226,8 @@ impl LibrarySession {
             (Call::Access(access), Reply::Answered(answer))
                 if answer.cacheable != 0 && answer.reads > 0 =>
             {
-                let place = place_of(page_of(access.address));
+                let granule = granule_of(self.found.regime.granule);
+                let place = place_of(page_of(granule, access.address));
                 wanted.entries[place] = self.session.entries[place];
                 wanted.entries[place].fill_idle(0);
             }

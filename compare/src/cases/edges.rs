@@ -1,52 +1,65 @@
 //! Addresses at the edges of both ranges, for every size field, over tables
 //! in which every entry leads on.
 
-use super::scene::{draw_access, draw_leaf, draw_table, Placement};
+use super::scene::{draw_access, draw_leaf, draw_table, Placement, Sketch};
 use super::Maker;
+use crate::geometry::{Granule, GREATEST_T, LEAST_T};
 use crate::promises::Expect;
-use crate::reference::{first_level, Access, Kind, GRANULE};
+use crate::reference::{Access, Kind};
 
 const FAMILY: &str = "edges";
 
+/// Which range is disabled: none, the one that is asked, or the other.
+const PLAIN: u64 = 0;
+const DISABLED: u64 = 3;
+
 pub fn run(maker: &mut Maker) {
-    for t in 16..=39 {
+    for t in LEAST_T..=GREATEST_T {
         for range in 0..2 {
-            // Once plainly, once with this range disabled, once the other.
-            for disabled in 0..3 {
-                set(maker, t, range, disabled);
-                for address in addresses(t) {
-                    let access = draw_access(&mut maker.random, address);
-                    maker.ask(FAMILY, &access, Expect::Walked);
-                    at_the_byte(maker, address);
-                }
+            for disabled in 0..DISABLED {
+                ask(maker, Granule::Kib4, t, range, disabled);
+            }
+            for granule in [Granule::Kib16, Granule::Kib64] {
+                ask(maker, granule, t, range, PLAIN);
             }
         }
     }
 }
 
+fn ask(maker: &mut Maker, granule: Granule, t: u8, range: usize, disabled: u64) {
+    set(maker, granule, t, range, disabled);
+    for address in addresses(t) {
+        let access = draw_access(&mut maker.random, granule, address);
+        maker.ask(FAMILY, &access, Expect::Walked);
+        at_the_byte(maker, address);
+    }
+}
+
 /// A pool in which every entry is a table that lies in the pool, and so at
 /// level 3 a page; or, where the first level has blocks, every entry a block.
-fn set(maker: &mut Maker, t: u8, range: usize, disabled: usize) {
+fn set(maker: &mut Maker, granule: Granule, t: u8, range: usize, disabled: u64) {
     let random = &mut maker.random;
     let scene = &mut maker.scene;
-    let code = random.below(6) as u8;
-    let placement = random.pick(&[Placement::Inside, Placement::EndsAtLimit, Placement::Zero]);
-    let granules = random.between(1, 3);
-    scene.draw(random, code, placement, granules);
-    let level = usize::from(first_level(t));
-    let blocks = level > 0 && random.once_in(3);
-    for granule in 0..granules {
-        for index in 0..GRANULE / 8 {
-            let descriptor = if blocks {
-                let output = scene.draw_output(random);
-                draw_leaf(random, level, output)
-            } else {
-                let next = scene.draw_granule(random);
-                draw_table(random, next)
-            };
-            let entry = scene.granule(granule) + 8 * index;
-            scene.put(entry, descriptor);
-        }
+    let most = if granule == Granule::Kib64 { 1 } else { 3 };
+    let sketch = Sketch {
+        granule,
+        code: random.below(6) as u8,
+        placement: random.pick(&[Placement::Inside, Placement::EndsAtLimit, Placement::Zero]),
+        granules: random.between(1, most),
+    };
+    scene.draw(random, sketch);
+    let level = granule.first_level(t);
+    let blocks = granule.has_blocks(level) && random.once_in(3);
+    for index in 0..scene.regime.pool.length as u64 / 8 {
+        let descriptor = if blocks {
+            let output = scene.draw_output(random);
+            draw_leaf(random, granule, usize::from(level), output)
+        } else {
+            let next = scene.draw_granule(random);
+            draw_table(random, granule, next)
+        };
+        let entry = scene.granule(0) + 8 * index;
+        scene.put(entry, descriptor);
     }
     scene.regime.ranges[range].t = t;
     for which in 0..2 {
@@ -89,7 +102,8 @@ fn at_the_byte(maker: &mut Maker, address: u64) {
         kind: random.pick(&[Kind::Read, Kind::Write, Kind::Update]),
         ..one
     };
-    let room = GRANULE - address % GRANULE;
+    let page = maker.scene.granule_size();
+    let room = page - address % page;
     let expect = if wide.size > room {
         Expect::Refused(7)
     } else {

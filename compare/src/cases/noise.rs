@@ -1,7 +1,10 @@
 //! Pools without a plan.
 
-use super::scene::{draw_access, draw_granules, Placement, Scene, HD_ALONE, WHOLE};
+use super::scene::{
+    draw_access, draw_granule_size, draw_granules, Placement, Scene, Sketch, HD_ALONE, WHOLE,
+};
 use super::Maker;
+use crate::geometry::Granule;
 use crate::promises::Expect;
 use crate::random::Random;
 
@@ -17,6 +20,12 @@ pub fn run(maker: &mut Maker) {
         // The same tables in the other byte order.
         if maker.random.once_in(4) {
             maker.scene.regime.ee ^= true;
+            ask(maker, Expect::Walked);
+        }
+        // The same tables under a smaller granule.
+        let smaller: Vec<Granule> = maker.scene.regime.granule.smaller().collect();
+        if !smaller.is_empty() && maker.random.once_in(4) {
+            maker.scene.regime.granule = maker.random.pick(&smaller);
             ask(maker, Expect::Walked);
         }
         // The same tables under a regime that is refused.
@@ -43,8 +52,14 @@ fn draw(random: &mut Random, scene: &mut Scene) {
         Placement::Straddles | Placement::StartsAtLimit if code == WHOLE => Placement::Top,
         other => other,
     };
-    let granules = draw_granules(random, 2);
-    scene.draw(random, code, placement, granules);
+    let granule = draw_granule_size(random);
+    let sketch = Sketch {
+        granule,
+        code,
+        placement,
+        granules: draw_granules(random, granule, 2),
+    };
+    scene.draw(random, sketch);
     match random.below(8) {
         0 | 1 => scene.fill_random(random),
         2 if random.once_in(4) => scene.memory.fill(0),
@@ -55,7 +70,8 @@ fn draw(random: &mut Random, scene: &mut Scene) {
 
 fn ask(maker: &mut Maker, expect: Expect) {
     let address = draw_address(maker);
-    let access = draw_access(&mut maker.random, address);
+    let granule = maker.scene.regime.granule;
+    let access = draw_access(&mut maker.random, granule, address);
     maker.ask(FAMILY, &access, expect);
 }
 

@@ -1,38 +1,46 @@
 //! Pools of every length, and what is at their end: the leaf in their last 8
 //! bytes, and a table that starts where they end.
 
-use super::scene::{draw_access, draw_clean_leaf, draw_leaf, draw_marking_access, Placement};
+use super::scene::{
+    draw_access, draw_before, draw_clean_leaf, draw_leaf, draw_marking_access, draw_t_with_tables,
+    Placement, Sketch,
+};
 use super::Maker;
-use crate::limits::POOL_GRANULES;
+use crate::geometry::Granule;
+use crate::limits::longest_pool;
 use crate::promises::Expect;
-use crate::reference::GRANULE;
 
 const FAMILY: &str = "pools";
-/// How often the longest pool comes in each placement.
-const LONGEST: u32 = 8;
+/// How often the longest pool comes in each placement, by granule.
+const LONGEST: [(Granule, u32); 3] = [(Granule::Kib4, 8), (Granule::Kib16, 2), (Granule::Kib64, 2)];
 const PLACEMENTS: [Placement; 3] = [Placement::Inside, Placement::Zero, Placement::EndsAtLimit];
 
 pub fn run(maker: &mut Maker) {
-    for granules in 1..=POOL_GRANULES {
-        let placement = maker.random.pick(&PLACEMENTS);
-        ask(maker, placement, granules);
-    }
-    for _ in 0..LONGEST {
-        for placement in PLACEMENTS {
-            ask(maker, placement, POOL_GRANULES);
+    for (granule, times) in LONGEST {
+        for granules in 1..=longest_pool(granule) {
+            let placement = maker.random.pick(&PLACEMENTS);
+            ask(maker, granule, placement, granules);
+        }
+        for _ in 0..times {
+            for placement in PLACEMENTS {
+                ask(maker, granule, placement, longest_pool(granule));
+            }
         }
     }
 }
 
 /// The end of a pool, and any place in it, with a little memory around it.
-fn ask(maker: &mut Maker, placement: Placement, granules: u64) {
+fn ask(maker: &mut Maker, granule: Granule, placement: Placement, granules: u64) {
     let random = &mut maker.random;
-    let code = random.below(6) as u8;
-    let before = random.pick(&[0, 1, 1, 2]) * GRANULE as usize;
+    let before = draw_before(random, granule);
     let behind = random.pick(&[8, 4096, 4100]);
-    maker
-        .scene
-        .draw_within(random, code, placement, granules, before, behind);
+    let sketch = Sketch {
+        granule,
+        code: random.below(6) as u8,
+        placement,
+        granules,
+    };
+    maker.scene.draw_within(random, sketch, before, behind);
     // Where the output size ends, no table may start.
     if placement != Placement::EndsAtLimit {
         ask_behind(maker, FAMILY);
@@ -52,10 +60,11 @@ pub fn ask_behind(maker: &mut Maker, family: &'static str) {
     path.tables[level] = scene.pool_end();
     path.indices[level] = 0;
     let output = scene.draw_output(random);
-    let leaf = draw_leaf(random, 3, output);
+    let granule = scene.regime.granule;
+    let leaf = draw_leaf(random, granule, 3, output);
     scene.lay(random, &path, leaf);
     let address = scene.address(random, &path);
-    let access = draw_access(random, address);
+    let access = draw_access(random, granule, address);
     maker.ask(family, &access, Expect::Walked);
 }
 
@@ -65,17 +74,19 @@ pub fn ask_last(maker: &mut Maker, family: &'static str) -> u64 {
     let random = &mut maker.random;
     let scene = &mut maker.scene;
     let range = random.below(2) as usize;
+    let granule = scene.regime.granule;
     scene.regime.ranges[range].disabled = false;
+    scene.regime.ranges[range].t = draw_t_with_tables(random, granule);
     // So that no table takes the writing away.
     scene.regime.ranges[range].hpd = true;
     (scene.regime.ha, scene.regime.hd) = (true, true);
     let path = scene.draw_path_to_end(random, range);
     let output = scene.draw_output(random);
-    let leaf = draw_clean_leaf(random, 3, output);
+    let leaf = draw_clean_leaf(random, granule, 3, output);
     scene.lay(random, &path, leaf);
     let address = scene.address(random, &path);
-    let marks = draw_marking_access(random, address);
-    let again = draw_access(random, address);
+    let marks = draw_marking_access(random, granule, address);
+    let again = draw_access(random, granule, address);
     maker.ask(family, &marks, Expect::Walked);
     maker.ask(family, &again, Expect::Walked);
     address
@@ -86,13 +97,14 @@ fn ask_anywhere(maker: &mut Maker) {
     let random = &mut maker.random;
     let scene = &mut maker.scene;
     let range = random.below(2) as usize;
+    let granule = scene.regime.granule;
     scene.regime.ranges[range].disabled = false;
-    let leaf_level = random.between(2, 3) as usize;
+    let leaf_level = scene.draw_leaf_level(random, range);
     let path = scene.draw_path(random, range, leaf_level);
     let output = scene.draw_output(random);
-    let leaf = draw_leaf(random, leaf_level, output);
+    let leaf = draw_leaf(random, granule, leaf_level, output);
     scene.lay(random, &path, leaf);
     let address = scene.address(random, &path);
-    let access = draw_access(random, address);
+    let access = draw_access(random, granule, address);
     maker.ask(FAMILY, &access, Expect::Walked);
 }

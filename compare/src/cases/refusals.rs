@@ -1,23 +1,67 @@
 //! The refusals of a plain walk: each row (RULES 5.1) at its limit, one past
 //! it, and in pairs, where the row that is looked at first must be given.
 
-use super::scene::{draw_leaf, Placement, Scene, HD_ALONE, UPDATES};
+use super::scene::{draw_granule_size, draw_leaf, Placement, Scene, Sketch, HD_ALONE, UPDATES};
 use super::Maker;
+use crate::geometry::{Granule, PHYSICAL_LIMIT};
 use crate::promises::Expect;
 use crate::random::Random;
-use crate::reference::{Access, Kind, GRANULE, MEMORY_LIMIT, PHYSICAL_LIMIT, POOL_LIMIT};
+use crate::reference::{Access, Kind, Regime, MEMORY_LIMIT, POOL_LIMIT};
 use crate::refusals::{is_before, WALK};
 
 const FAMILY: &str = "refusals";
-const PAGE: usize = GRANULE as usize;
-/// The highest multiple of the granule that a number can hold.
-const HIGHEST: u64 = u64::MAX - (GRANULE - 1);
+
+/// How often each change comes alone, by granule; and of those that make long
+/// memories.
+const ALONE: [(Granule, u32, u32); 3] = [
+    (Granule::Kib4, 20, 3),
+    (Granule::Kib16, 10, 1),
+    (Granule::Kib64, 20, 1),
+];
 
 /// What a case starts from: accepted, until something is changed in it.
 struct Question<'a> {
     scene: &'a mut Scene,
     access: Access,
 }
+
+impl Question<'_> {
+    fn regime(&mut self) -> &mut Regime {
+        &mut self.scene.regime
+    }
+
+    fn granule(&self) -> u64 {
+        self.scene.granule_size()
+    }
+
+    /// The same, for lengths and offsets.
+    fn page(&self) -> usize {
+        self.scene.regime.granule.length()
+    }
+
+    /// The highest multiple of the granule that a number can hold.
+    fn highest(&self) -> u64 {
+        u64::MAX - (self.granule() - 1)
+    }
+
+    /// Makes it an access that moves so many bytes at an address.
+    fn move_to(&mut self, random: &mut Random, address: u64, size: u64) {
+        self.access.kind = random.pick(&[Kind::Read, Kind::Write, Kind::Update]);
+        self.access.size = size;
+        self.access.address = address;
+    }
+}
+
+/// Numbers that are no multiple of a granule; some are one of a smaller
+/// granule.
+const OFF: [fn(u64) -> u64; 6] = [
+    |_| 1,
+    |_| 8,
+    |granule| granule / 16,
+    |granule| granule / 4,
+    |granule| granule / 2,
+    |granule| granule - 1,
+];
 
 /// A change to a question. Those in `past` break their row whatever the
 /// question was; those in `limits` break none.
@@ -55,24 +99,24 @@ pub fn run(maker: &mut Maker) {
     updates(&mut changes);
     access_size(&mut changes);
     page_crossing(&mut changes);
-    each_alone(maker, &changes, 24);
-    in_pairs(maker, &changes);
-
     let mut long = Changes::default();
     lengths(&mut long);
-    each_alone(maker, &long, 4);
+    for (granule, times, times_long) in ALONE {
+        each_alone(maker, granule, &changes, times);
+        each_alone(maker, granule, &long, times_long);
+    }
+    in_pairs(maker, &changes);
     with_each_row(maker, &long, &changes);
-
     every_attribute_byte(maker);
 }
 
-fn each_alone(maker: &mut Maker, changes: &Changes, times: u32) {
+fn each_alone(maker: &mut Maker, granule: Granule, changes: &Changes, times: u32) {
     for _ in 0..times {
         for (row, change) in &changes.past {
-            ask(maker, &[change], Expect::Refused(*row));
+            ask_under(maker, granule, &[change], Expect::Refused(*row));
         }
         for change in &changes.limits {
-            ask(maker, &[change], Expect::Walked);
+            ask_under(maker, granule, &[change], Expect::Walked);
         }
     }
 }
@@ -112,29 +156,23 @@ fn with_each_row(maker: &mut Maker, long: &Changes, changes: &Changes) {
 
 /// A question that is accepted, its changes, and the call.
 fn ask(maker: &mut Maker, changes: &[&Change], expect: Expect) {
+    let granule = draw_granule_size(&mut maker.random);
+    ask_under(maker, granule, changes, expect);
+}
+
+/// The same under one granule.
+fn ask_under(maker: &mut Maker, granule: Granule, changes: &[&Change], expect: Expect) {
     let random = &mut maker.random;
     let scene = &mut maker.scene;
-    let granules = random.between(1, 3);
-    let code = random.below(6) as u8;
-    scene.draw(random, code, Placement::Inside, granules);
-    let range = random.below(2) as usize;
-    let leaf_level = random.between(2, 3) as usize;
-    let path = scene.draw_path(random, range, leaf_level);
-    let output = scene.draw_output(random);
-    let leaf = draw_leaf(random, leaf_level, output);
-    scene.lay(random, &path, leaf);
-    let kind = random.pick(&Kind::ALL);
-    let size = match kind {
-        Kind::Fetch => 4,
-        Kind::ProbeRead | Kind::ProbeWrite => 1,
-        _ => 1 << random.below(5),
+    let most = if granule == Granule::Kib64 { 2 } else { 3 };
+    let sketch = Sketch {
+        granule,
+        code: random.below(6) as u8,
+        placement: Placement::Inside,
+        granules: random.between(1, most),
     };
-    let access = Access {
-        address: scene.address(random, &path) & !(size - 1),
-        size,
-        el0: random.coin(),
-        kind,
-    };
+    scene.draw(random, sketch);
+    let access = lay_and_draw(random, scene);
     let mut question = Question { scene, access };
     for change in changes {
         change(&mut question, random);
@@ -143,99 +181,135 @@ fn ask(maker: &mut Maker, changes: &[&Change], expect: Expect) {
     maker.ask(FAMILY, &access, expect);
 }
 
+/// A path, and an access of what it leads to.
+fn lay_and_draw(random: &mut Random, scene: &mut Scene) -> Access {
+    let range = random.below(2) as usize;
+    let leaf_level = scene.draw_leaf_level(random, range);
+    let path = scene.draw_path(random, range, leaf_level);
+    let output = scene.draw_output(random);
+    let leaf = draw_leaf(random, scene.regime.granule, leaf_level, output);
+    scene.lay(random, &path, leaf);
+    let kind = random.pick(&Kind::ALL);
+    let size = match kind {
+        Kind::Fetch => 4,
+        Kind::ProbeRead | Kind::ProbeWrite => 1,
+        _ => 1 << random.below(5),
+    };
+    Access {
+        address: scene.address(random, &path) & !(size - 1),
+        size,
+        el0: random.coin(),
+        kind,
+    }
+}
+
 /// Row 1.
 fn memory_and_pool(changes: &mut Changes) {
     // Memory too short for any pool.
-    for length in [0, 1, 8, PAGE - 1] {
+    for length in [|_| 0, |_| 1, |_| 8, |page: usize| page - 1] {
         changes.past(1, move |question, _| {
+            let length = length(question.page());
             question.scene.memory.resize(length, 0)
         });
     }
     // Memory and pool as short as they may be.
     changes.limit(|question, _| {
-        question.scene.memory.resize(PAGE, 0);
-        question.scene.regime.pool.start = 0;
-        question.scene.regime.pool.length = PAGE;
+        let page = question.page();
+        question.scene.memory.resize(page, 0);
+        question.regime().pool.start = 0;
+        question.regime().pool.length = page;
     });
+    end_of_memory(changes);
+    off_the_granule(changes);
+    no_length(changes);
+    sums_that_wrap(changes);
+}
 
-    // The pool's end against the end of memory.
+/// Row 1: the pool's end against the end of memory.
+fn end_of_memory(changes: &mut Changes) {
     changes.limit(|question, _| {
-        let pool = question.scene.regime.pool;
+        let pool = question.regime().pool;
         let end = pool.start.saturating_add(pool.length);
         if end <= MEMORY_LIMIT {
             question.scene.memory.resize(end, 0);
         }
     });
-    for short in [1, 8, PAGE] {
+    for short in [|_| 1, |_| 8, |page: usize| page] {
         changes.past(1, move |question, _| {
-            let pool = &mut question.scene.regime.pool;
-            (pool.start, pool.length) = (2 * PAGE, 2 * PAGE);
-            question.scene.memory.resize(4 * PAGE - short, 0);
+            let page = question.page();
+            let pool = &mut question.regime().pool;
+            (pool.start, pool.length) = (2 * page, 2 * page);
+            question.scene.memory.resize(4 * page - short(page), 0);
         });
     }
     changes.past(1, |question, _| {
-        question.scene.memory.resize(3 * PAGE, 0);
-        question.scene.regime.pool.start = 3 * PAGE;
+        let page = question.page();
+        question.scene.memory.resize(3 * page, 0);
+        question.regime().pool.start = 3 * page;
     });
+}
 
-    // Off the granule. The memory would be long enough.
-    for off in [1, 8, PAGE / 2, PAGE - 1] {
+/// Row 1: start or length off the granule, and a memory that is long enough.
+fn off_the_granule(changes: &mut Changes) {
+    for off in OFF {
         changes.past(1, move |question, _| {
-            question.scene.memory.resize(8 * PAGE, 0);
-            question.scene.regime.pool.start = PAGE + off;
-            question.scene.regime.pool.length = PAGE;
+            let (page, off) = (question.page(), off(question.granule()) as usize);
+            question.scene.memory.resize(4 * page, 0);
+            question.regime().pool.start = page + off;
+            question.regime().pool.length = page;
         });
         changes.past(1, move |question, _| {
-            question.scene.memory.resize(8 * PAGE, 0);
-            question.scene.regime.pool.start = PAGE;
-            question.scene.regime.pool.length = PAGE + off;
+            let (page, off) = (question.page(), off(question.granule()) as usize);
+            question.scene.memory.resize(4 * page, 0);
+            question.regime().pool.start = page;
+            question.regime().pool.length = page + off;
+        });
+        changes.past(1, move |question, _| {
+            question.regime().pool.length = off(question.granule()) as usize;
         });
     }
-    for length in [1, 8, PAGE / 2, PAGE - 1] {
-        changes.past(1, move |question, _| {
-            question.scene.regime.pool.length = length
-        });
-    }
+}
 
-    // Length 0.
-    changes.past(1, |question, _| question.scene.regime.pool.length = 0);
+/// Row 1: length 0.
+fn no_length(changes: &mut Changes) {
+    changes.past(1, |question, _| question.regime().pool.length = 0);
     changes.past(1, |question, _| {
-        let pool = &mut question.scene.regime.pool;
-        pool.length = 0;
-        pool.start = question.scene.memory.len() / PAGE * PAGE;
+        let page = question.page();
+        let start = question.scene.memory.len() / page * page;
+        let pool = &mut question.regime().pool;
+        (pool.start, pool.length) = (start, 0);
     });
+}
 
-    // Numbers whose sum would wrap.
-    let highest = usize::MAX - (PAGE - 1);
-    for start in [
-        highest,
-        usize::MAX,
-        usize::MAX - 7,
-        1 << 63,
-        1 << 32,
-        (1 << 32) + PAGE,
-        MEMORY_LIMIT,
-    ] {
+/// Row 1: numbers whose sum would wrap, and others that are far too large.
+fn sums_that_wrap(changes: &mut Changes) {
+    let any: [fn(usize) -> usize; 6] = [
+        |page| usize::MAX - (page - 1),
+        |_| usize::MAX,
+        |_| 1 << 63,
+        |_| 1 << 32,
+        |page| (1 << 32) + page,
+        |_| MEMORY_LIMIT,
+    ];
+    for number in any {
         changes.past(1, move |question, _| {
-            question.scene.regime.pool.start = start
+            question.regime().pool.start = number(question.page());
         });
-    }
-    let too_long = (1 << 32) + PAGE;
-    for length in [highest, usize::MAX, 1 << 63, too_long, MEMORY_LIMIT] {
         changes.past(1, move |question, _| {
-            question.scene.regime.pool.length = length
+            question.regime().pool.length = number(question.page());
         });
     }
     changes.past(1, |question, _| {
-        let pool = &mut question.scene.regime.pool;
+        let pool = &mut question.regime().pool;
         pool.start = 0usize.wrapping_sub(pool.length);
     });
     changes.past(1, |question, _| {
-        let pool = &mut question.scene.regime.pool;
-        pool.length = 0usize.wrapping_sub(pool.start.max(PAGE));
+        let page = question.page();
+        let pool = &mut question.regime().pool;
+        pool.length = 0usize.wrapping_sub(pool.start.max(page));
     });
     changes.past(1, |question, _| {
-        let pool = &mut question.scene.regime.pool;
+        let pool = &mut question.regime().pool;
         (pool.start, pool.length) = (1 << 63, 1 << 63);
     });
 }
@@ -247,22 +321,19 @@ fn lengths(changes: &mut Changes) {
         question.scene.memory.resize(MEMORY_LIMIT + 1, 0)
     });
     changes.limit(|question, _| {
-        let pool = &mut question.scene.regime.pool;
+        let page = question.page();
+        let pool = &mut question.regime().pool;
         pool.length = POOL_LIMIT;
         // Row 2 still holds.
         pool.address = pool.address.min(PHYSICAL_LIMIT - POOL_LIMIT as u64);
-        pool.start = pool.start.min(2 * PAGE);
-        question.scene.memory.resize(2 * PAGE + POOL_LIMIT, 0);
+        pool.start = pool.start.min(2 * page);
+        question.scene.memory.resize(2 * page + POOL_LIMIT, 0);
     });
-    for length in [
-        POOL_LIMIT + 1,
-        POOL_LIMIT + 8,
-        POOL_LIMIT + PAGE,
-        2 * POOL_LIMIT,
-    ] {
+    for more in [|_| 1, |_| 8, |page: usize| page, |_| POOL_LIMIT] {
         changes.past(1, move |question, _| {
-            question.scene.regime.pool.start = 0;
-            question.scene.regime.pool.length = length;
+            let length = POOL_LIMIT + more(question.page());
+            question.regime().pool.start = 0;
+            question.regime().pool.length = length;
             question.scene.memory.resize(length, 0);
         });
     }
@@ -270,35 +341,36 @@ fn lengths(changes: &mut Changes) {
 
 /// Row 2.
 fn pool_address(changes: &mut Changes) {
-    for off in [1, 8, GRANULE / 2, GRANULE - 1] {
+    for off in OFF {
         changes.past(2, move |question, _| {
-            question.scene.regime.pool.address = GRANULE + off
+            let granule = question.granule();
+            question.regime().pool.address = granule + off(granule);
         });
     }
-    changes.limit(|question, _| question.scene.regime.pool.address = 0);
+    changes.limit(|question, _| question.regime().pool.address = 0);
     changes.limit(|question, _| {
-        let pool = &mut question.scene.regime.pool;
+        let pool = &mut question.regime().pool;
         pool.address = PHYSICAL_LIMIT.wrapping_sub(pool.length as u64);
     });
     changes.past(2, |question, _| {
-        let pool = &mut question.scene.regime.pool;
-        pool.address = PHYSICAL_LIMIT - pool.length as u64 + GRANULE;
+        let granule = question.granule();
+        let pool = &mut question.regime().pool;
+        pool.address = PHYSICAL_LIMIT - pool.length as u64 + granule;
     });
-    for address in [
-        PHYSICAL_LIMIT,
-        PHYSICAL_LIMIT + GRANULE,
-        1 << 52,
-        1 << 63,
-        HIGHEST,
-        u64::MAX,
-    ] {
+    changes.past(2, |question, _| {
+        question.regime().pool.address = PHYSICAL_LIMIT + question.granule();
+    });
+    changes.past(2, |question, _| {
+        question.regime().pool.address = question.highest();
+    });
+    for address in [PHYSICAL_LIMIT, 1 << 52, 1 << 63, u64::MAX] {
         changes.past(2, move |question, _| {
-            question.scene.regime.pool.address = address
+            question.regime().pool.address = address
         });
     }
     // The sum would wrap to 0, or to less than the pool's length.
     changes.past(2, |question, _| {
-        let pool = &mut question.scene.regime.pool;
+        let pool = &mut question.regime().pool;
         pool.address = 0u64.wrapping_sub(pool.length as u64) | 1 << 63;
     });
 }
@@ -308,70 +380,74 @@ fn sizes_and_code(changes: &mut Changes) {
     for range in 0..2 {
         for t in [0, 1, 15, 40, 41, 63, 64, 128 + 16, 255] {
             changes.past(3, move |question, random| {
-                question.scene.regime.ranges[range].t = t;
-                question.scene.regime.ranges[range].disabled = random.coin();
+                question.regime().ranges[range].t = t;
+                question.regime().ranges[range].disabled = random.coin();
             });
         }
         for t in [16, 39] {
             changes.limit(move |question, random| {
-                question.scene.regime.ranges[range].t = t;
-                question.scene.regime.ranges[range].disabled = random.coin();
+                question.regime().ranges[range].t = t;
+                question.regime().ranges[range].disabled = random.coin();
             });
         }
     }
     for code in [6, 7, 8, 13, 128, 255] {
-        changes.past(3, move |question, _| {
-            question.scene.regime.output_code = code
-        });
+        changes.past(3, move |question, _| question.regime().output_code = code);
     }
     for code in [0, 5] {
-        changes.limit(move |question, _| question.scene.regime.output_code = code);
+        changes.limit(move |question, _| question.regime().output_code = code);
     }
 }
 
-/// Row 4, for both ranges, disabled or not; and row 5.
+/// Row 4, for both ranges, disabled or not; then row 5.
 fn roots_and_attributes(changes: &mut Changes) {
+    let beyond: [fn(u64) -> u64; 6] = [
+        |_| PHYSICAL_LIMIT - 1,
+        |_| PHYSICAL_LIMIT,
+        |granule| PHYSICAL_LIMIT + granule,
+        |_| 1 << 63,
+        |granule| u64::MAX - (granule - 1),
+        |_| u64::MAX,
+    ];
     for range in 0..2 {
-        for root in [
-            1,
-            8,
-            GRANULE / 2,
-            GRANULE - 1,
-            PHYSICAL_LIMIT - 1,
-            PHYSICAL_LIMIT,
-            PHYSICAL_LIMIT + GRANULE,
-            1 << 63,
-            HIGHEST,
-            u64::MAX,
-        ] {
+        for root in OFF.into_iter().chain(beyond) {
             changes.past(4, move |question, random| {
-                question.scene.regime.ranges[range].root = root;
-                question.scene.regime.ranges[range].disabled = random.coin();
+                let root = root(question.granule());
+                question.regime().ranges[range].root = root;
+                question.regime().ranges[range].disabled = random.coin();
             });
         }
         // A good root with one bit off.
         changes.past(4, move |question, random| {
-            question.scene.regime.ranges[range].root |= 1 << random.below(12);
+            let bits = u64::from(question.regime().granule.page_bits());
+            question.regime().ranges[range].root |= 1 << random.below(bits);
         });
         changes.past(4, move |question, random| {
-            question.scene.regime.ranges[range].root |= 1 << random.between(48, 63);
+            question.regime().ranges[range].root |= 1 << random.between(48, 63);
         });
-        for root in [0, PHYSICAL_LIMIT - GRANULE] {
+        let least: fn(u64) -> u64 = |_| 0;
+        for root in [least, |granule| PHYSICAL_LIMIT - granule] {
             changes.limit(move |question, random| {
-                question.scene.regime.ranges[range].root = root;
-                question.scene.regime.ranges[range].disabled = random.coin();
+                let root = root(question.granule());
+                question.regime().ranges[range].root = root;
+                question.regime().ranges[range].disabled = random.coin();
             });
         }
     }
+    attributes(changes);
+}
+
+/// Row 5.
+fn attributes(changes: &mut Changes) {
     // Some bytes; `every_attribute_byte` has them all.
     for byte in [0x01, 0x02, 0x05, 0x0F, 0x10, 0x40, 0x80, 0xF0] {
         changes.past(5, move |question, random| {
-            question.scene.regime.attributes[random.below(8) as usize] = byte;
+            question.regime().attributes[random.below(8) as usize] = byte;
         });
     }
     for byte in [0x00, 0x04, 0x08, 0x0C, 0x11, 0xFF] {
         changes.limit(move |question, random| {
-            question.scene.regime.attributes[random.below(8) as usize] = byte;
+            question.regime().attributes[random.below(8) as usize] = byte;
         });
     }
 }
@@ -444,31 +520,36 @@ fn access_size(changes: &mut Changes) {
 
 /// Row 7.
 fn page_crossing(changes: &mut Changes) {
-    let kinds = [Kind::Read, Kind::Write, Kind::Update];
     for size in [2, 4, 8, 16] {
         // The first and the last start that cross, and one between.
         changes.past(7, move |question, random| {
             let over = random.pick(&[1, size / 2, size - 1]);
-            question.access.kind = random.pick(&kinds);
-            question.access.size = size;
-            question.access.address = (question.access.address | (GRANULE - 1)) - (size - 1) + over;
+            let last = question.access.address | (question.granule() - 1);
+            question.move_to(random, last - (size - 1) + over, size);
         });
         // The highest start that does not.
         changes.limit(move |question, random| {
-            question.access.kind = random.pick(&kinds);
-            question.access.size = size;
-            question.access.address = (question.access.address | (GRANULE - 1)) - (size - 1);
+            let last = question.access.address | (question.granule() - 1);
+            question.move_to(random, last - (size - 1), size);
+        });
+        // Across the end of a smaller page; where there is none, the first start.
+        changes.limit(move |question, random| {
+            let smaller = Granule::Kib4.bytes();
+            let over = random.pick(&[1, size / 2, size - 1]);
+            let page = question.regime().granule.floor(question.access.address);
+            let address = match random.below(question.granule() / smaller) {
+                0 => page,
+                border => page + border * smaller - over,
+            };
+            question.move_to(random, address, size);
         });
         // Across the end of the address space, and just up to it.
         changes.past(7, move |question, random| {
-            question.access.kind = random.pick(&kinds);
-            question.access.size = size;
-            question.access.address = u64::MAX - (size - 2) + random.below(size - 1);
+            let address = u64::MAX - (size - 2) + random.below(size - 1);
+            question.move_to(random, address, size);
         });
         changes.limit(move |question, random| {
-            question.access.kind = random.pick(&kinds);
-            question.access.size = size;
-            question.access.address = u64::MAX - (size - 1);
+            question.move_to(random, u64::MAX - (size - 1), size);
         });
     }
     changes.limit(|question, _| {
@@ -490,7 +571,7 @@ fn every_attribute_byte(maker: &mut Maker) {
                 Expect::Refused(5)
             };
             let change: Change =
-                Box::new(move |question, _| question.scene.regime.attributes[place] = byte);
+                Box::new(move |question, _| question.regime().attributes[place] = byte);
             ask(maker, &[&change], expect);
         }
     }

@@ -1,11 +1,16 @@
 //! Every combination of permission bits, dirty state and controls, crossed
-//! with every kind of access, at every leaf level. What tables take away is
-//! switched off here; it has a family of its own.
+//! with every kind of access, at every leaf level, under some granule. What
+//! tables take away is switched off here; it has a family of its own.
 
-use super::scene::{draw_device, draw_granules, draw_normal, Placement, UPDATES};
+use super::scene::{
+    draw_device, draw_granule_size, draw_granules, draw_normal, draw_t, leaf_type, Placement,
+    Sketch, UPDATES,
+};
 use super::Maker;
+use crate::geometry::Granule;
 use crate::promises::Expect;
-use crate::reference::{Access, Kind, ADDRESS_FIELD, AF, AP1, AP2, DBM, GRANULE, PXN, UXN};
+use crate::random::Random;
+use crate::reference::{Access, Kind, AF, AP1, AP2, DBM, PXN, UXN};
 
 const FAMILY: &str = "rights";
 
@@ -45,49 +50,24 @@ pub fn run(maker: &mut Maker) {
 }
 
 fn ask(maker: &mut Maker, choice: &Choice) {
+    let range = draw_scene(maker, choice);
+    let leaf = draw_leaf(maker, choice);
     let random = &mut maker.random;
     let scene = &mut maker.scene;
-    let granules = draw_granules(random, 1).min(3);
-    let code = random.below(6) as u8;
-    scene.draw(random, code, Placement::Inside, granules);
-
-    let range = random.below(2) as usize;
-    let highest = if choice.level == 1 { 33 } else { 39 };
-    scene.regime.ranges[range].t = random.between(16, highest) as u8;
-    scene.regime.ranges[range].disabled = false;
-    scene.regime.ranges[range].hpd = true;
-    // Of the four numbers two are for both on, which has the most to do.
-    let updates = (choice.bits & 3) as usize;
-    (scene.regime.ha, scene.regime.hd) = UPDATES[updates.min(UPDATES.len() - 1)];
-    scene.regime.wxn = choice.bits & 4 != 0;
-
-    let index = random.below(8);
-    scene.regime.attributes[index as usize] = if choice.device {
-        draw_device(random)
-    } else {
-        draw_normal(random)
-    };
-    let mut leaf = random.bits() & !ADDRESS_FIELD & !0x1F;
-    for (place, bit) in LEAF_BITS.iter().enumerate() {
-        leaf &= !(1 << bit);
-        leaf |= u64::from(choice.bits >> (place + 3) & 1) << bit;
-    }
-    leaf |= index << 2 | if choice.level == 3 { 3 } else { 1 };
-    leaf |= scene.draw_output(random) & ADDRESS_FIELD;
-
     let path = scene.draw_path(random, range, choice.level);
     scene.lay(random, &path, leaf);
-    let page = scene.address(random, &path) & !(GRANULE - 1);
+    let granule = scene.regime.granule;
+    let page = granule.floor(scene.address(random, &path));
     let size = match choice.kind {
         Kind::Fetch => 4,
         Kind::ProbeRead | Kind::ProbeWrite => 1,
         _ if choice.misaligned => 2 << random.below(4),
         _ => 1 << random.below(5),
     };
-    let mut offset = random.below(GRANULE / size) * size;
+    let mut offset = random.below(granule.bytes() / size) * size;
     if choice.misaligned {
         // Stays off the multiples of the size and within the page.
-        offset = offset.min(GRANULE - 2 * size) + random.between(1, size - 1);
+        offset = offset.min(granule.bytes() - 2 * size) + random.between(1, size - 1);
     }
     let access = Access {
         address: page + offset,
@@ -96,4 +76,70 @@ fn ask(maker: &mut Maker, choice: &Choice) {
         kind: choice.kind,
     };
     maker.ask(FAMILY, &access, Expect::Walked);
+}
+
+/// A granule that has leaves at a level.
+fn draw_granule_with(random: &mut Random, level: u8) -> Granule {
+    loop {
+        let granule = draw_granule_size(random);
+        if granule.leaf_levels().any(|other| other == level) {
+            return granule;
+        }
+    }
+}
+
+/// A size field whose first level is not below a level.
+fn draw_t_above(random: &mut Random, granule: Granule, level: u8) -> u8 {
+    loop {
+        let t = draw_t(random);
+        if granule.first_level(t) <= level {
+            return t;
+        }
+    }
+}
+
+/// Pool and regime, and the range that is asked.
+fn draw_scene(maker: &mut Maker, choice: &Choice) -> usize {
+    let random = &mut maker.random;
+    let scene = &mut maker.scene;
+    let level = choice.level as u8;
+    let granule = draw_granule_with(random, level);
+    let sketch = Sketch {
+        granule,
+        code: random.below(6) as u8,
+        placement: Placement::Inside,
+        granules: draw_granules(random, granule, 1).min(3),
+    };
+    scene.draw(random, sketch);
+
+    let number = random.below(2) as usize;
+    let range = &mut scene.regime.ranges[number];
+    range.t = draw_t_above(random, granule, level);
+    range.disabled = false;
+    range.hpd = true;
+    // Of the four numbers two are for both on, which has the most to do.
+    let updates = (choice.bits & 3) as usize;
+    (scene.regime.ha, scene.regime.hd) = UPDATES[updates.min(UPDATES.len() - 1)];
+    scene.regime.wxn = choice.bits & 4 != 0;
+    number
+}
+
+/// The leaf, and its attribute byte in the regime.
+fn draw_leaf(maker: &mut Maker, choice: &Choice) -> u64 {
+    let random = &mut maker.random;
+    let scene = &mut maker.scene;
+    let index = random.below(8);
+    scene.regime.attributes[index as usize] = if choice.device {
+        draw_device(random)
+    } else {
+        draw_normal(random)
+    };
+    let field = scene.regime.granule.table_field();
+    let mut leaf = random.bits() & !field & !0x1F;
+    for (place, bit) in LEAF_BITS.iter().enumerate() {
+        leaf &= !(1 << bit);
+        leaf |= u64::from(choice.bits >> (place + 3) & 1) << bit;
+    }
+    leaf |= index << 2 | leaf_type(choice.level);
+    leaf | scene.draw_output(random) & field
 }

@@ -1,17 +1,13 @@
 //! A memory with a pool in it, a regime that speaks of the pool, and paths
 //! of descriptors laid through it, in the byte order that the regime has then.
 
+use crate::geometry::{Granule, GREATEST_T, LAST_LEVEL, LEAST_T, PHYSICAL_LIMIT};
 use crate::random::Random;
 use crate::reference::{
-    descriptor_bytes, first_level, index_bits, lowest_index_bit, output_limit, read_descriptor,
-    write_descriptor, Access, Kind, Pool, Range, Regime, ADDRESS_FIELD, AF, AP1, AP2, DBM, GRANULE,
-    PHYSICAL_LIMIT, TAKING, TAKING_FIELD,
+    descriptor_bytes, output_limit, read_descriptor, write_descriptor, Access, Kind, Pool, Range,
+    Regime, AF, AP1, AP2, DBM, TAKING, TAKING_FIELD,
 };
 
-/// Entries in a table below the first one.
-pub const ENTRIES: u64 = GRANULE / 8;
-/// The most granules of a pool where its length does not matter.
-pub const SHORT: u64 = 16;
 /// The output size code for which any address is within the output size.
 pub const WHOLE: u8 = 5;
 
@@ -35,9 +31,42 @@ pub enum Placement {
     StartsAtLimit,
     /// It ends at 2^48.
     Top,
-    /// Where its granules, `SHORT` at most, have the same addresses in either
-    /// byte order; the output size must be `WHOLE`.
+    /// Where its granules, in `EITHER_WAY` bytes at most, have the same
+    /// addresses in either byte order; the output size must be `WHOLE`.
     EitherWay,
+}
+
+/// The longest pool whose granules can have the same addresses in either order.
+const EITHER_WAY: u64 = 65_536;
+
+/// What a scene is drawn for.
+#[derive(Clone, Copy, Debug)]
+pub struct Sketch {
+    pub granule: Granule,
+    pub code: u8,
+    pub placement: Placement,
+    /// Granules of the pool.
+    pub granules: u64,
+}
+
+/// Descriptors that are drawn for a memory; a longer one repeats them. It is a
+/// prime number, so that one index finds other descriptors in other tables.
+const DRAWN: usize = 1021;
+
+/// Goes on with what the first `DRAWN` descriptors of a memory are.
+fn repeat(memory: &mut [u8]) {
+    let mut filled = 8 * DRAWN;
+    while filled < memory.len() {
+        let more = filled.min(memory.len() - filled);
+        memory.copy_within(..more, filled);
+        filled += more;
+    }
+}
+
+/// The bytes that are drawn.
+fn drawn(memory: &mut [u8]) -> impl Iterator<Item = &mut [u8]> {
+    let length = memory.len().min(8 * DRAWN);
+    memory[..length].chunks_mut(8)
 }
 
 pub struct Scene {
@@ -91,19 +120,20 @@ fn draw_size(random: &mut Random, kind: Kind) -> u64 {
 }
 
 /// An access of any kind somewhere in the page of `address`, never refused.
-pub fn draw_access(random: &mut Random, address: u64) -> Access {
+pub fn draw_access(random: &mut Random, granule: Granule, address: u64) -> Access {
     let kind = random.pick(&Kind::ALL);
-    draw_access_of(random, address, kind)
+    draw_access_of(random, granule, address, kind)
 }
 
 /// The same, of one kind.
-pub fn draw_access_of(random: &mut Random, address: u64, kind: Kind) -> Access {
+pub fn draw_access_of(random: &mut Random, granule: Granule, address: u64, kind: Kind) -> Access {
     let size = draw_size(random, kind);
-    let room = GRANULE - size;
+    let room = granule.bytes() - size;
     let offset = match random.below(5) {
         0 => room,
         1 => 0,
         2 => random.below(room + 1),
+        3 => draw_across(random, granule, size),
         _ => random.below(room + 1) & !(size - 1),
     };
     let offset = if kind == Kind::Fetch {
@@ -112,37 +142,58 @@ pub fn draw_access_of(random: &mut Random, address: u64, kind: Kind) -> Access {
         offset
     };
     Access {
-        address: (address & !(GRANULE - 1)) + offset,
+        address: granule.floor(address) + offset,
         size,
         el0: random.coin(),
         kind,
     }
 }
 
+/// An offset in a page from which some bytes cross a border of smaller pages;
+/// a multiple of their number, where there is no such border.
+fn draw_across(random: &mut Random, granule: Granule, size: u64) -> u64 {
+    let smaller = Granule::Kib4.bytes();
+    let borders = granule.bytes() / smaller - 1;
+    if borders == 0 {
+        return random.below(granule.bytes() / size) * size;
+    }
+    let border = smaller * random.between(1, borders);
+    border - random.below(size)
+}
+
 /// Any bits beside a leaf's address and type; half of the time with the
 /// fields set so that most accesses pass.
-pub fn draw_leaf(random: &mut Random, level: usize, output: u64) -> u64 {
-    let field = ADDRESS_FIELD & !((1 << lowest_index_bit(level as u8)) - 1);
+pub fn draw_leaf(random: &mut Random, granule: Granule, level: usize, output: u64) -> u64 {
+    let field = granule.leaf_field(level as u8);
     let mut leaf = (random.bits() & !field & !3) | (output & field);
     if random.coin() {
         leaf |= 1 << AF | 1 << AP1;
         leaf &= !(1 << AP2);
     }
-    leaf | if level == 3 { 3 } else { 1 }
+    leaf | leaf_type(level)
+}
+
+/// Bits 1..0 of a leaf.
+pub fn leaf_type(level: usize) -> u64 {
+    if level == usize::from(LAST_LEVEL) {
+        3
+    } else {
+        1
+    }
 }
 
 /// A leaf that a write from EL1 marks accessed and dirty, where HA and HD are
 /// on and no table takes the writing away.
-pub fn draw_clean_leaf(random: &mut Random, level: usize, output: u64) -> u64 {
-    let leaf = draw_leaf(random, level, output);
+pub fn draw_clean_leaf(random: &mut Random, granule: Granule, level: usize, output: u64) -> u64 {
+    let leaf = draw_leaf(random, granule, level, output);
     leaf & !(1 << AF) | 1 << AP2 | 1 << DBM
 }
 
 /// A write or update from EL1 in the page of `address`, at a multiple of its
 /// size.
-pub fn draw_marking_access(random: &mut Random, address: u64) -> Access {
+pub fn draw_marking_access(random: &mut Random, granule: Granule, address: u64) -> Access {
     let kind = random.pick(&[Kind::Write, Kind::Update]);
-    let access = draw_access_of(random, address, kind);
+    let access = draw_access_of(random, granule, address, kind);
     Access {
         address: access.address & !(access.size - 1),
         el0: false,
@@ -152,14 +203,15 @@ pub fn draw_marking_access(random: &mut Random, address: u64) -> Access {
 
 /// Any bits beside a table's address and type. Of those that take something
 /// away there are often none, so that much is left below a few tables.
-pub fn draw_table(random: &mut Random, address: u64) -> u64 {
+pub fn draw_table(random: &mut Random, granule: Granule, address: u64) -> u64 {
     let any = random.bits();
+    let field = granule.table_field();
     let taking = match random.below(8) {
         0..=4 => 0,
         5 | 6 => 1 << random.pick(&TAKING),
         _ => any & TAKING_FIELD,
     };
-    (any & !ADDRESS_FIELD & !TAKING_FIELD) | taking | (address & ADDRESS_FIELD) | 3
+    (any & !field & !TAKING_FIELD) | taking | (address & field) | 3
 }
 
 /// An address whose bytes are the same in either order; all but bytes 5 to 2
@@ -170,8 +222,8 @@ fn draw_either_way(random: &mut Random) -> u64 {
 }
 
 /// A descriptor with bits 1..0 in bits 57..56 too, and bits 15..12 in bits
-/// 55..52: with an address as above it has, in either order, one type and one
-/// granule.
+/// 55..52: with an address as above it has, in either order, one type and leads
+/// to one granule.
 fn made_either_way(descriptor: u64) -> u64 {
     let (sort, granule) = (descriptor & 3, descriptor >> 12 & 0xF);
     descriptor & !(0x3F << 52) | sort << 56 | granule << 52
@@ -186,12 +238,13 @@ impl Scene {
             disabled: false,
             hpd: false,
         };
+        let granule = Granule::Kib4;
         Scene {
             memory: Vec::new(),
             regime: Regime {
                 pool: Pool {
                     start: 0,
-                    length: GRANULE as usize,
+                    length: granule.length(),
                     address: 0,
                 },
                 ranges: [range; 2],
@@ -200,10 +253,15 @@ impl Scene {
                 hd: false,
                 wxn: false,
                 ee: false,
+                granule,
                 attributes: [0xFF; 8],
             },
             either_way: false,
         }
+    }
+
+    pub fn granule_size(&self) -> u64 {
+        self.regime.granule.bytes()
     }
 
     pub fn limit(&self) -> u64 {
@@ -215,17 +273,17 @@ impl Scene {
     }
 
     pub fn granules(&self) -> u64 {
-        self.regime.pool.length as u64 / GRANULE
+        self.regime.pool.length as u64 / self.granule_size()
     }
 
     /// Physical address of one of the pool's granules.
     pub fn granule(&self, number: u64) -> u64 {
-        self.regime.pool.address + GRANULE * number
+        self.regime.pool.address + self.granule_size() * number
     }
 
     /// Granules of the pool within the output size; all, if none is.
     fn usable(&self) -> u64 {
-        let below = self.limit().saturating_sub(self.regime.pool.address) / GRANULE;
+        let below = self.limit().saturating_sub(self.regime.pool.address) / self.granule_size();
         match below.min(self.granules()) {
             0 => self.granules(),
             some => some,
@@ -236,46 +294,31 @@ impl Scene {
         self.granule(random.below(self.usable()))
     }
 
-    /// A new pool of `granules`, a legal regime with nothing fixed but the
+    /// A new pool, a legal regime with nothing fixed but the granule and the
     /// output code, and memory full of likely descriptors, also around the
     /// pool.
-    pub fn draw(&mut self, random: &mut Random, code: u8, placement: Placement, granules: u64) {
-        let before = random.pick(&[0, 1, 1, 2]) * GRANULE as usize;
+    pub fn draw(&mut self, random: &mut Random, sketch: Sketch) {
+        let before = draw_before(random, sketch.granule);
         let behind = random.pick(&[0, 1, 8, 4095, 4096, 4096, 4096, 4100, 8192]);
-        self.draw_within(random, code, placement, granules, before, behind);
+        self.draw_within(random, sketch, before, behind);
     }
 
     /// The same, with the memory before and behind the pool given in bytes.
     pub fn draw_within(
         &mut self,
         random: &mut Random,
-        code: u8,
-        placement: Placement,
-        granules: u64,
+        sketch: Sketch,
         before: usize,
         behind: usize,
     ) {
-        let limit = output_limit(code);
-        let length = granules * GRANULE;
-        let address = match placement {
-            Placement::Zero => 0,
-            Placement::Inside => random.between(1, limit / GRANULE - granules - 1) * GRANULE,
-            Placement::EndsAtLimit => limit - length,
-            Placement::Straddles => limit - GRANULE * random.between(1, granules - 1),
-            Placement::StartsAtLimit => limit,
-            Placement::Top => PHYSICAL_LIMIT - length,
-            Placement::EitherWay => draw_either_way(random),
-        };
-        self.either_way = placement == Placement::EitherWay;
-        self.regime.pool = Pool {
-            start: before,
-            length: length as usize,
-            address,
-        };
-        self.regime.output_code = code;
+        self.either_way = sketch.placement == Placement::EitherWay;
+        self.regime.pool = draw_pool(random, sketch, before);
+        self.regime.granule = sketch.granule;
+        self.regime.output_code = sketch.code;
         self.draw_controls(random);
         self.memory.clear();
-        self.memory.resize(before + length as usize + behind, 0);
+        let length = before + self.regime.pool.length + behind;
+        self.memory.resize(length, 0);
         self.fill_likely(random);
     }
 
@@ -294,7 +337,7 @@ impl Scene {
         for range in 0..2 {
             self.regime.ranges[range] = Range {
                 root: self.draw_root(random),
-                t: random.between(16, 39) as u8,
+                t: draw_t(random),
                 disabled: random.once_in(8),
                 // In the other order any bit of a table may take something away.
                 hpd: random.once_in(4) || self.either_way && random.coin(),
@@ -305,8 +348,8 @@ impl Scene {
     /// Any root that is not refused; mostly one in the pool.
     fn draw_root(&self, random: &mut Random) -> u64 {
         match random.below(8) {
-            0 => random.below(PHYSICAL_LIMIT / GRANULE) * GRANULE,
-            1 => random.below(self.limit() / GRANULE) * GRANULE,
+            0 => self.regime.granule.floor(random.below(PHYSICAL_LIMIT)),
+            1 => self.regime.granule.floor(random.below(self.limit())),
             _ => self.draw_granule(random),
         }
     }
@@ -316,11 +359,12 @@ impl Scene {
     pub fn fill_likely(&mut self, random: &mut Random) {
         let limit = self.limit();
         let (address, granules) = (self.regime.pool.address, self.usable());
-        let ee = self.regime.ee;
-        for bytes in self.memory.chunks_mut(8) {
+        let (ee, granule) = (self.regime.ee, self.granule_size());
+        let field = self.regime.granule.table_field();
+        for bytes in drawn(&mut self.memory) {
             let noise = random.bits();
             let other = random.bits();
-            let rest = noise & !ADDRESS_FIELD & !3;
+            let rest = noise & !field & !3;
             // As for `draw_table`.
             let table = if other >> 61 < 5 {
                 rest & !TAKING_FIELD
@@ -330,19 +374,21 @@ impl Scene {
             let descriptor = match noise >> 12 & 15 {
                 0 => noise & !1,
                 1 => noise,
-                2..=5 => rest | (other & (limit - 1) & ADDRESS_FIELD) | 1,
-                6 | 7 => table | (other & (limit - 1) & ADDRESS_FIELD) | 3,
-                _ => table | (address + GRANULE * (other % granules)) | 3,
+                2..=5 => rest | (other & (limit - 1) & field) | 1,
+                6 | 7 => table | (other & (limit - 1) & field) | 3,
+                _ => table | (address + granule * (other % granules)) | 3,
             };
             bytes.copy_from_slice(&descriptor_bytes(descriptor, ee)[..bytes.len()]);
         }
+        repeat(&mut self.memory);
     }
 
     /// Fills the whole memory with bytes that follow no plan.
     pub fn fill_random(&mut self, random: &mut Random) {
-        for bytes in self.memory.chunks_mut(8) {
+        for bytes in drawn(&mut self.memory) {
             bytes.copy_from_slice(&random.bits().to_le_bytes()[..bytes.len()]);
         }
+        repeat(&mut self.memory);
     }
 
     /// Offset in memory for a physical address, in the pool or around it.
@@ -388,7 +434,7 @@ impl Scene {
     /// if that can be had.
     pub fn draw_path(&self, random: &mut Random, range: usize, leaf_level: usize) -> Path {
         let t = self.regime.ranges[range].t;
-        let first = usize::from(first_level(t));
+        let first = usize::from(self.regime.granule.first_level(t));
         let mut path = Path {
             range,
             first,
@@ -408,13 +454,40 @@ impl Scene {
         path
     }
 
+    /// Any address of a range.
+    pub fn draw_address(&self, random: &mut Random, range: usize) -> u64 {
+        let span = 64 - u32::from(self.regime.ranges[range].t);
+        let address = random.bits() & ((1 << span) - 1);
+        match range {
+            0 => address,
+            _ => address | u64::MAX << span,
+        }
+    }
+
+    /// Gives a path the indices of an address.
+    pub fn lead_to(&self, path: &mut Path, address: u64) {
+        let t = self.regime.ranges[path.range].t;
+        for level in path.first..=path.leaf_level {
+            path.indices[level] = self.regime.granule.index(t, level as u8, address);
+        }
+    }
+
+    /// A leaf level that a range can reach.
+    pub fn draw_leaf_level(&self, random: &mut Random, range: usize) -> usize {
+        let granule = self.regime.granule;
+        let first = granule.first_level(self.regime.ranges[range].t);
+        let levels = granule.leaf_levels().filter(|level| *level >= first);
+        usize::from(random.pick(&levels.collect::<Vec<u8>>()))
+    }
+
     /// A path to a page whose leaf is the pool's last descriptor, which serves
-    /// no other level.
+    /// no other level. The range must have tables above its pages, which can
+    /// then have any index.
     pub fn draw_path_to_end(&self, random: &mut Random, range: usize) -> Path {
         loop {
             let mut path = self.draw_path(random, range, 3);
             path.tables[3] = self.granule(self.granules() - 1);
-            path.indices[3] = ENTRIES - 1;
+            path.indices[3] = self.entries(range, 3) - 1;
             if (path.first..3).all(|above| path.entry(above) != path.entry(3)) {
                 return path;
             }
@@ -433,14 +506,15 @@ impl Scene {
 
     /// Number of entries that can be reached at a level.
     pub fn entries(&self, range: usize, level: usize) -> u64 {
-        1 << index_bits(self.regime.ranges[range].t, level as u8)
+        let t = self.regime.ranges[range].t;
+        1 << self.regime.granule.index_bits(t, level as u8)
     }
 
     /// Sets the root and writes the path's descriptors, the leaf last.
     pub fn lay(&mut self, random: &mut Random, path: &Path, leaf: u64) {
         self.regime.ranges[path.range].root = path.tables[path.first];
         for level in path.first..path.leaf_level {
-            let table = draw_table(random, path.tables[level + 1]);
+            let table = draw_table(random, self.regime.granule, path.tables[level + 1]);
             self.put(path.entry(level), table);
         }
         self.put(path.entry(path.leaf_level), leaf);
@@ -449,9 +523,10 @@ impl Scene {
     /// The address that the path translates, its lower bits free.
     pub fn address(&self, random: &mut Random, path: &Path) -> u64 {
         let span = 64 - u32::from(self.regime.ranges[path.range].t);
-        let mut address = random.bits() & ((1 << lowest_index_bit(path.leaf_level as u8)) - 1);
+        let granule = self.regime.granule;
+        let mut address = random.bits() & granule.span_mask(path.leaf_level as u8);
         for level in path.first..=path.leaf_level {
-            address |= path.indices[level] << lowest_index_bit(level as u8);
+            address |= path.indices[level] << granule.lowest_index_bit(level as u8);
         }
         if path.range == 1 {
             address |= u64::MAX << span;
@@ -471,12 +546,82 @@ impl Default for Scene {
     }
 }
 
-/// Pool lengths where they do not matter: mostly a few granules, and up to
-/// `SHORT` at times.
-pub fn draw_granules(random: &mut Random, least: u64) -> u64 {
+/// The most granules of a pool where its length does not matter, and how many
+/// it mostly has.
+pub fn short_pool(granule: Granule) -> (u64, u64) {
+    match granule {
+        Granule::Kib4 => (16, 4),
+        Granule::Kib16 => (8, 3),
+        Granule::Kib64 => (4, 2),
+    }
+}
+
+/// Pool lengths where they do not matter: mostly a few granules.
+pub fn draw_granules(random: &mut Random, granule: Granule, least: u64) -> u64 {
+    let (most, few) = short_pool(granule);
     match random.below(16) {
-        0 => SHORT,
-        1 => random.between(least, SHORT),
-        _ => random.between(least, 4),
+        0 => most,
+        1 => random.between(least, most),
+        _ => random.between(least, few.max(least)),
+    }
+}
+
+/// Bytes before a pool: some granules, of the largest seldom one.
+pub fn draw_before(random: &mut Random, granule: Granule) -> usize {
+    let granules = match granule {
+        Granule::Kib64 => random.pick(&[0, 0, 0, 1]),
+        _ => random.pick(&[0, 1, 1, 2]),
+    };
+    granules * granule.length()
+}
+
+/// A pool as it is wanted, behind so many bytes of memory.
+fn draw_pool(random: &mut Random, sketch: Sketch, before: usize) -> Pool {
+    let Sketch {
+        code, placement, ..
+    } = sketch;
+    let granule = sketch.granule.bytes();
+    let granules = match placement {
+        Placement::EitherWay => sketch.granules.min(EITHER_WAY / granule),
+        _ => sketch.granules,
+    };
+    let (limit, length) = (output_limit(code), granules * granule);
+    let address = match placement {
+        Placement::Zero => 0,
+        Placement::Inside => random.between(1, limit / granule - granules - 1) * granule,
+        Placement::EndsAtLimit => limit - length,
+        Placement::Straddles => limit - granule * random.between(1, granules - 1),
+        Placement::StartsAtLimit => limit,
+        Placement::Top => PHYSICAL_LIMIT - length,
+        Placement::EitherWay => draw_either_way(random),
+    };
+    Pool {
+        start: before,
+        length: length as usize,
+        address,
+    }
+}
+
+/// Any size field.
+pub fn draw_t(random: &mut Random) -> u8 {
+    random.between(u64::from(LEAST_T), u64::from(GREATEST_T)) as u8
+}
+
+/// A size field whose first level is above the pages.
+pub fn draw_t_with_tables(random: &mut Random, granule: Granule) -> u8 {
+    loop {
+        let t = draw_t(random);
+        if granule.first_level(t) < LAST_LEVEL {
+            return t;
+        }
+    }
+}
+
+/// A granule: 4 KiB two times out of three, and 64 KiB once in nine.
+pub fn draw_granule_size(random: &mut Random) -> Granule {
+    match random.below(9) {
+        0..=5 => Granule::Kib4,
+        6 | 7 => Granule::Kib16,
+        _ => Granule::Kib64,
     }
 }

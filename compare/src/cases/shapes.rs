@@ -1,16 +1,18 @@
-//! Trees of every shape: each first level, each leaf level, both ranges,
-//! each output size, each with one thing made odd on purpose.
+//! Trees of every shape: each granule, each first level, each leaf level, both
+//! ranges, each output size, each with one thing made odd on purpose.
 
 use super::scene::{
-    draw_access, draw_granules, draw_leaf, draw_table, Path, Placement, Scene, WHOLE,
+    draw_access, draw_granules, draw_leaf, draw_t, draw_table, Path, Placement, Scene, Sketch,
+    WHOLE,
 };
 use super::Maker;
+use crate::geometry::{Granule, LAST_LEVEL, PHYSICAL_LIMIT};
 use crate::promises::Expect;
 use crate::random::Random;
-use crate::reference::{first_level, lowest_index_bit, GRANULE, PHYSICAL_LIMIT};
 
 const FAMILY: &str = "shapes";
-const ROUNDS: u32 = 7;
+/// How often all shapes of a granule come.
+const ROUNDS: [(Granule, u32); 3] = [(Granule::Kib4, 6), (Granule::Kib16, 2), (Granule::Kib64, 1)];
 
 /// The odd thing. A number is the level whose table or descriptor is meant.
 #[derive(Clone, Copy, Debug)]
@@ -28,7 +30,7 @@ enum Twist {
     Far(usize),
     /// Bit 0 is clear.
     Invalid(usize),
-    /// Bits 1..0 are 01 at level 0 or 3.
+    /// Bits 1..0 are 01 at a level without blocks.
     Reserved(usize),
     /// The bytes of the descriptor stand in the other order.
     Reversed(usize),
@@ -59,7 +61,7 @@ enum Twist {
     Disabled,
 }
 
-fn twists(first: usize, leaf_level: usize) -> Vec<Twist> {
+fn twists(granule: Granule, first: usize, leaf_level: usize) -> Vec<Twist> {
     let mut all = vec![
         Twist::Plain,
         Twist::Plain,
@@ -85,14 +87,15 @@ fn twists(first: usize, leaf_level: usize) -> Vec<Twist> {
             Twist::TableAt(level),
             Twist::TableAbove(level),
         ]);
-        if level == 0 || level == 3 {
+        if !granule.has_blocks(level as u8) {
             all.push(Twist::Reserved(level));
         }
         if level < leaf_level {
             all.push(Twist::Shared(level));
         }
     }
-    if leaf_level == 3 {
+    // With a table and a page.
+    if first < leaf_level && leaf_level == usize::from(LAST_LEVEL) {
         all.extend([Twist::Recursive, Twist::Loop]);
     }
     all
@@ -100,6 +103,7 @@ fn twists(first: usize, leaf_level: usize) -> Vec<Twist> {
 
 /// One tree to make.
 struct Wish {
+    granule: Granule,
     t: u8,
     range: usize,
     leaf_level: usize,
@@ -115,26 +119,39 @@ impl Wish {
 }
 
 pub fn run(maker: &mut Maker) {
-    for _ in 0..ROUNDS {
-        let some = maker.random.between(16, 39) as u8;
-        let another = maker.random.between(16, 39) as u8;
-        for t in [16, 24, 25, 33, 34, 39, some, another] {
-            let first = usize::from(first_level(t));
-            for leaf_level in first.max(1)..=3 {
-                for code in 0..6 {
-                    for twist in twists(first, leaf_level) {
-                        for range in 0..2 {
-                            let wish = Wish {
-                                t,
-                                range,
-                                leaf_level,
-                                code,
-                                twist,
-                            };
-                            ask(maker, &wish);
-                        }
-                    }
-                }
+    for (granule, rounds) in ROUNDS {
+        for _ in 0..rounds {
+            for t in draw_size_fields(&mut maker.random, granule) {
+                each_leaf_level(maker, granule, t);
+            }
+        }
+    }
+}
+
+/// The bounds of each first level, and two others.
+fn draw_size_fields(random: &mut Random, granule: Granule) -> Vec<u8> {
+    let rows = granule.first_levels().iter();
+    let mut all: Vec<u8> = rows.flat_map(|row| [row.1, row.2]).collect();
+    all.dedup();
+    all.extend([draw_t(random), draw_t(random)]);
+    all
+}
+
+fn each_leaf_level(maker: &mut Maker, granule: Granule, t: u8) {
+    let first = granule.first_level(t);
+    for leaf_level in granule.leaf_levels().filter(|level| *level >= first) {
+        let leaf_level = usize::from(leaf_level);
+        for twist in twists(granule, usize::from(first), leaf_level) {
+            for (code, range) in (0..=WHOLE).flat_map(|code| [(code, 0), (code, 1)]) {
+                let wish = Wish {
+                    granule,
+                    t,
+                    range,
+                    leaf_level,
+                    code,
+                    twist,
+                };
+                ask(maker, &wish);
             }
         }
     }
@@ -147,16 +164,17 @@ fn ask(maker: &mut Maker, wish: &Wish) {
     let scene = &mut maker.scene;
     draw_scene(random, scene, wish);
     let output = draw_output(random, scene, wish);
-    let leaf = draw_leaf(random, wish.leaf_level, output);
+    let leaf = draw_leaf(random, wish.granule, wish.leaf_level, output);
     let mut path = scene.draw_path(random, wish.range, wish.leaf_level);
     bend(random, scene, wish, &mut path);
     scene.lay(random, &path, leaf);
     mar(random, scene, wish, &path);
     let address = scene.address(random, &path);
     let (address, again) = spoil(random, scene, wish, &path, address);
-    let beside = address ^ 1 << random.between(12, 63 - u64::from(wish.t));
+    let lowest = u64::from(wish.granule.page_bits());
+    let beside = address ^ 1 << random.between(lowest, 63 - u64::from(wish.t));
     for address in [address, again, beside] {
-        let access = draw_access(&mut maker.random, address);
+        let access = draw_access(&mut maker.random, wish.granule, address);
         maker.ask(FAMILY, &access, Expect::Walked);
     }
 }
@@ -178,15 +196,20 @@ fn draw_scene(random: &mut Random, scene: &mut Scene, wish: &Wish) {
             (some, 1)
         }
     };
-    let granules = draw_granules(random, least);
+    let sketch = Sketch {
+        granule: wish.granule,
+        code: wish.code,
+        placement,
+        granules: draw_granules(random, wish.granule, least),
+    };
     match wish.twist {
         // Memory on the side where the walk will stray, mostly.
         Twist::PastEnd(_) | Twist::BeforeStart(_) if !random.once_in(8) => {
-            let before = (random.between(1, 2) * GRANULE) as usize;
+            let before = random.between(1, 2) as usize * wish.granule.length();
             let behind = random.pick(&[8, 4096, 4096, 4103, 8192]);
-            scene.draw_within(random, wish.code, placement, granules, before, behind);
+            scene.draw_within(random, sketch, before, behind);
         }
-        _ => scene.draw(random, wish.code, placement, granules),
+        _ => scene.draw(random, sketch),
     }
     scene.regime.ranges[wish.range].t = wish.t;
     scene.regime.ranges[wish.range].disabled = matches!(wish.twist, Twist::Disabled);
@@ -205,7 +228,7 @@ fn draw_output(random: &mut Random, scene: &Scene, wish: &Wish) -> u64 {
 /// Leads the path to where the twist wants it, before it is written.
 fn bend(random: &mut Random, scene: &Scene, wish: &Wish, path: &mut Path) {
     let leaf_level = wish.leaf_level;
-    let limit = scene.limit();
+    let (limit, granule) = (scene.limit(), scene.granule_size());
     match wish.twist {
         Twist::LastSlot => {
             path.tables[leaf_level] = scene.granule(scene.granules() - 1);
@@ -222,21 +245,21 @@ fn bend(random: &mut Random, scene: &Scene, wish: &Wish, path: &mut Path) {
             }
         }
         Twist::BeforeStart(level) => {
-            path.tables[level] = scene.granule(0) - GRANULE;
+            path.tables[level] = scene.granule(0) - granule;
             if !random.once_in(4) {
                 path.indices[level] = scene.entries(wish.range, level) - 1;
             }
         }
         Twist::Far(level) => {
-            path.tables[level] = random.below(limit / GRANULE) * GRANULE;
+            path.tables[level] = random.below(limit / granule) * granule;
         }
-        Twist::TableBelow(level) => path.tables[level] = limit - GRANULE,
+        Twist::TableBelow(level) => path.tables[level] = limit - granule,
         Twist::TableAt(level) if wish.has_beyond() => path.tables[level] = limit,
         Twist::TableAbove(level) if wish.has_beyond() => {
             path.tables[level] = match random.below(3) {
-                0 => scene.pool_end() - GRANULE,
-                1 => limit + GRANULE,
-                _ => limit + random.below((PHYSICAL_LIMIT - limit) / GRANULE) * GRANULE,
+                0 => scene.pool_end() - granule,
+                1 => limit + granule,
+                _ => limit + random.below((PHYSICAL_LIMIT - limit) / granule) * granule,
             };
         }
         Twist::OneTable => path.tables = [path.tables[leaf_level]; 4],
@@ -257,7 +280,7 @@ fn mar(random: &mut Random, scene: &mut Scene, wish: &Wish, path: &Path) {
         Twist::OtherOrder => scene.regime.ee ^= true,
         Twist::EitherWay => scene.regime.ee ^= random.coin(),
         Twist::Recursive => {
-            let table = draw_table(random, path.tables[wish.leaf_level]);
+            let table = draw_table(random, wish.granule, path.tables[wish.leaf_level]);
             scene.put(path.entry(wish.leaf_level), table);
         }
         _ => {}
@@ -280,16 +303,16 @@ fn spoil(
             round.indices[2] = scene.draw_index(random, wish.range, 2);
             round.tables[3] = path.tables[2];
             round.indices[3] = path.indices[2];
-            let table = draw_table(random, path.tables[2]);
+            let table = draw_table(random, wish.granule, path.tables[2]);
             scene.put(round.entry(2), table);
             return (address, scene.address(random, &round));
         }
         Twist::Shared(level) => {
             let mut other = *path;
             other.indices[level] = scene.draw_index(random, wish.range, level);
-            let table = draw_table(random, path.tables[level + 1]);
+            let table = draw_table(random, wish.granule, path.tables[level + 1]);
             scene.put(other.entry(level), table);
-            let in_leaf = (1 << lowest_index_bit(wish.leaf_level as u8)) - 1;
+            let in_leaf = wish.granule.span_mask(wish.leaf_level as u8);
             let second = scene.address(random, &other);
             return (address, (second & !in_leaf) | (address & in_leaf));
         }

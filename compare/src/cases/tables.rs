@@ -4,29 +4,21 @@
 //! more of the tables on the way.
 
 use super::scene::{
-    draw_access_of, draw_device, draw_normal, draw_table, Path, Placement, UPDATES,
+    draw_access_of, draw_device, draw_granule_size, draw_normal, draw_table, leaf_type, Path,
+    Placement, Sketch, UPDATES,
 };
 use super::Maker;
+use crate::geometry::Granule;
 use crate::promises::Expect;
+use crate::random::Random;
 use crate::reference::{
-    bit, Access, Kind, ADDRESS_FIELD, AF, AP1, AP2, DBM, PXN, PXN_TABLE, TAKING, TAKING_FIELD, UXN,
+    bit, Access, Kind, AF, AP1, AP2, DBM, PXN, PXN_TABLE, TAKING, TAKING_FIELD, UXN,
 };
 
 const FAMILY: &str = "tables";
 
 /// The leaf bits that are crossed.
 const LEAF_BITS: [u32; 5] = [AP1, AP2, DBM, PXN, UXN];
-
-/// Leaf levels, each with the least and the greatest size field of a first
-/// level above it.
-const SHAPES: [(usize, u64, u64); 6] = [
-    (1, 16, 24),
-    (2, 16, 24),
-    (2, 25, 33),
-    (3, 16, 24),
-    (3, 25, 33),
-    (3, 34, 39),
-];
 
 struct Choice {
     leaf: u32,
@@ -66,11 +58,22 @@ fn ask(maker: &mut Maker, choice: &Choice) {
     let page = maker.scene.address(&mut maker.random, &path);
     for kind in Kind::ALL {
         for el0 in [false, true] {
-            let access = draw_access_of(&mut maker.random, page, kind);
+            let granule = maker.scene.regime.granule;
+            let access = draw_access_of(&mut maker.random, granule, page, kind);
             maker.scene.put(path.entry(path.leaf_level), leaf);
             maker.ask(FAMILY, &Access { el0, ..access }, Expect::Walked);
         }
     }
+}
+
+/// A leaf level below a first level, and a size field for it.
+fn draw_way(random: &mut Random, granule: Granule) -> (usize, u8) {
+    let below = granule.ways().filter(|(first, level)| first < level);
+    let (first, level) = random.pick(&below.collect::<Vec<(u8, u8)>>());
+    let mut rows = granule.first_levels().iter();
+    let &(_, least, greatest) = rows.find(|row| row.0 == first).expect("a first level");
+    let t = random.between(u64::from(least), u64::from(greatest)) as u8;
+    (usize::from(level), t)
 }
 
 /// A pool and a regime, and a path with a table in it; HPD of the other range
@@ -78,12 +81,19 @@ fn ask(maker: &mut Maker, choice: &Choice) {
 fn draw_path(maker: &mut Maker, choice: &Choice) -> Path {
     let random = &mut maker.random;
     let scene = &mut maker.scene;
-    let (code, granules) = (random.below(6) as u8, random.between(1, 3));
-    scene.draw_within(random, code, Placement::Inside, granules, 0, 0);
-    let (leaf_level, least, most) = random.pick(&SHAPES);
+    let granule = draw_granule_size(random);
+    let most = if granule == Granule::Kib64 { 2 } else { 3 };
+    let sketch = Sketch {
+        granule,
+        code: random.below(6) as u8,
+        placement: Placement::Inside,
+        granules: random.between(1, most),
+    };
+    scene.draw_within(random, sketch, 0, 0);
+    let (leaf_level, t) = draw_way(random, granule);
     let number = random.below(2) as usize;
     let range = &mut scene.regime.ranges[number];
-    range.t = random.between(least, most) as u8;
+    range.t = t;
     range.disabled = false;
     range.hpd = choice.hpd;
     scene.regime.ranges[1 - number].hpd = random.coin();
@@ -102,7 +112,8 @@ fn draw_leaf(maker: &mut Maker, choice: &Choice, level: usize) -> u64 {
         0 => draw_device(random),
         _ => draw_normal(random),
     };
-    let mut leaf = random.bits() & !ADDRESS_FIELD & !0x1F;
+    let field = scene.regime.granule.table_field();
+    let mut leaf = random.bits() & !field & !0x1F;
     for (place, bit) in LEAF_BITS.iter().enumerate() {
         leaf &= !(1 << bit);
         leaf |= u64::from(choice.leaf >> place & 1) << bit;
@@ -110,8 +121,8 @@ fn draw_leaf(maker: &mut Maker, choice: &Choice, level: usize) -> u64 {
     if !scene.regime.ha {
         leaf |= 1 << AF;
     }
-    let output = scene.draw_output(random) & ADDRESS_FIELD;
-    leaf | output | index << 2 | if level == 3 { 3 } else { 1 }
+    let output = scene.draw_output(random) & field;
+    leaf | output | index << 2 | leaf_type(level)
 }
 
 /// Writes the tables of a path once more, so that their bits add up to a sum.
@@ -127,8 +138,9 @@ fn lay_sum(maker: &mut Maker, sum: u64, path: &Path) {
             }
         }
     }
+    let granule = maker.scene.regime.granule;
     for level in tables {
-        let table = draw_table(random, path.tables[level + 1]) & !TAKING_FIELD;
+        let table = draw_table(random, granule, path.tables[level + 1]) & !TAKING_FIELD;
         maker.scene.put(path.entry(level), table | taking[level]);
     }
 }

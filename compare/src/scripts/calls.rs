@@ -5,14 +5,16 @@ use super::world::{draw_usable_leaf, lead_to, set_bit, vary, Leaves, World};
 use super::{Step, CALLS};
 use crate::boundary::Spelling;
 use crate::cases::scene::{draw_access, draw_access_of, draw_table, HD_ALONE};
+use crate::geometry::{Granule, PHYSICAL_LIMIT};
+use crate::granules::with_granule;
 use crate::random::Random;
 use crate::reference::{
     find_leaf, is_device, offset_in_memory, output_limit, read_descriptor, writable_clean, Access,
-    Kind, Regime, AF, AP1, AP2, DBM, GRANULE, PHYSICAL_LIMIT, POOL_LIMIT, PXN, TAKING, UXN,
+    Kind, Regime, AF, AP1, AP2, DBM, POOL_LIMIT, PXN, TAKING, UXN,
 };
-use crate::refusals::{row_1, SET_REGIME};
+use crate::refusals::{of_set_regime, row_1, SET_REGIME};
 use crate::reversed::other_order;
-use crate::session::{Call, Held, Session};
+use crate::session::{first_of, page_of, Call, Held, Session};
 use std::vec;
 
 /// How often each sort of call comes.
@@ -23,6 +25,8 @@ struct Mood {
     regime: u64,
     /// The regime of the moment, in the other byte order.
     other_order: u64,
+    /// The regime of the moment, with another granule.
+    other_granule: u64,
     bad_regime: u64,
     bad_access: u64,
     /// The rest, to 100, are accesses; of 8 of them, so many write.
@@ -36,6 +40,7 @@ const EVEN: Mood = Mood {
     drop: 3,
     regime: 3,
     other_order: 1,
+    other_granule: 1,
     bad_regime: 3,
     bad_access: 3,
     writes: 1,
@@ -53,6 +58,14 @@ const STORES: Mood = Mood { store: 35, ..EVEN };
 const ORDERS: Mood = Mood {
     regime: 1,
     other_order: 8,
+    writes: 2,
+    ..EVEN
+};
+
+const GRANULES: Mood = Mood {
+    store: 8,
+    regime: 1,
+    other_granule: 6,
     writes: 2,
     ..EVEN
 };
@@ -79,6 +92,7 @@ const FILL: Mood = Mood {
     drop: 0,
     regime: 0,
     other_order: 0,
+    other_granule: 0,
     bad_regime: 1,
     bad_access: 1,
     ..EVEN
@@ -92,21 +106,53 @@ const LENGTHS: Mood = Mood {
 /// The family whose memories are the longest.
 const LONG: &str = "long";
 
+/// How many families there are, by their weights.
+const TURNS: u64 = 18;
+
+/// The granule of home, turn by turn of all families: 4 KiB two times out of
+/// three.
+fn granule_of(number: u64) -> Granule {
+    match number / TURNS % 12 {
+        0..=7 => Granule::Kib4,
+        8 | 9 => Granule::Kib16,
+        _ => Granule::Kib64,
+    }
+}
+
 /// A family, its mood and a world, turn by turn.
 fn draw_setting(number: u64, random: &mut Random) -> (&'static str, Mood, World) {
-    let mixed = |random: &mut Random| World::planned(random, Leaves::Mixed);
-    let clean = |random: &mut Random| World::planned(random, Leaves::Clean);
-    match number % 16 {
-        _ if number % 1500 == 8 => (LONG, EVEN, World::long_memory(random, number / 1500)),
-        _ if number % 500 == 7 => ("pools", LENGTHS, World::long_pool(random, number / 500)),
+    let granule = granule_of(number);
+    let mixed = |random: &mut Random| World::planned(random, granule, Leaves::Mixed);
+    let clean = |random: &mut Random| World::planned(random, granule, Leaves::Clean);
+    match number % TURNS {
+        _ if number % 1500 == 8 => (LONG, EVEN, long_memory(random, number / 1500)),
+        _ if number % 400 == 7 => ("pools", LENGTHS, long_pool(random, number / 400)),
         0..=2 => ("trees", EVEN, mixed(random)),
-        3 => ("orders", ORDERS, World::either_way(random)),
+        3 => ("orders", ORDERS, World::either_way(random, granule)),
         4..=7 => ("dirty", DIRTY, clean(random)),
         8 | 9 => ("stores", STORES, clean(random)),
         10 | 11 => ("regimes", REGIMES, mixed(random)),
         12 => ("quiet", QUIET, clean(random)),
-        13 => ("wide", FILL, World::wide(random)),
-        _ => ("noise", EVEN, World::unplanned(random)),
+        13 => ("wide", FILL, World::wide(random, granule)),
+        14 | 15 => ("granules", GRANULES, World::two_granules(random)),
+        _ => ("noise", EVEN, World::unplanned(random, granule)),
+    }
+}
+
+/// Four turns are for 4 KiB, those behind them for the largest granule.
+fn long_memory(random: &mut Random, turn: u64) -> World {
+    match turn {
+        0..=3 => World::long_memory(random, Granule::Kib4, turn),
+        _ => World::long_memory(random, Granule::Kib64, turn - 4),
+    }
+}
+
+/// Twelve turns are for 4 KiB, those behind them for the others.
+fn long_pool(random: &mut Random, turn: u64) -> World {
+    match turn {
+        0..=11 => World::long_pool(random, Granule::Kib4, turn),
+        12 | 13 => World::long_pool(random, Granule::Kib16, turn - 12),
+        _ => World::long_pool(random, Granule::Kib64, turn - 14),
     }
 }
 
@@ -120,8 +166,14 @@ enum Planned {
     Reverse(u64),
     Write(u64),
     Look(u64),
+    /// A look in its page of 4 KiB, whatever the granule is then.
+    Near(u64),
     /// The regime of the moment is set in the other byte order.
     OtherOrder,
+    /// It is set with another granule.
+    OtherGranule,
+    /// The page with a number is looked at, whatever the granule is then.
+    Number(u64),
     Home,
     Drop,
 }
@@ -152,6 +204,7 @@ impl Script {
             let start = random.below(pages.len() as u64 - 3) as usize;
             let mut hot = pages[start..start + 4].to_vec();
             hot.extend((0..4).map(|_| random.pick(pages)));
+            hot.extend(&world.shared);
             hot
         };
         let opening = match &world.ends {
@@ -212,7 +265,7 @@ impl Script {
     /// As much as is lent as a rule; at times all, if the regime needs it.
     fn usual_length(&mut self, session: &Session) -> usize {
         match session.regime {
-            Some(regime) if row_1(self.world.length, &regime.pool) => {
+            Some(regime) if row_1(self.world.length, &regime) => {
                 let length = self.world.length;
                 let all = self.world.memory.len();
                 self.random.pick(&[length, all, all])
@@ -257,6 +310,8 @@ impl Script {
             self.draw_regime()
         } else if turn(mood.other_order) {
             self.draw_other_order(session)
+        } else if turn(mood.other_granule) {
+            self.draw_other_granule(session)
         } else if turn(mood.bad_regime) {
             (Call::SetRegime(self.draw_bad_regime()), None)
         } else if turn(mood.bad_access) {
@@ -272,25 +327,23 @@ impl Script {
         if self.plan.is_empty() {
             self.plan_ahead(&regime, session);
         }
-        let random = &mut self.random;
-        match self.plan.pop()? {
-            Planned::Store(page) => Some(self.draw_store_for(page, session, memory)),
-            Planned::Turn(page) => Some(self.draw_turn(page, session, memory)),
-            Planned::Reverse(page) => Some(self.draw_reversed(page, &regime, memory)),
-            Planned::OtherOrder => Some(Call::SetRegime(other_order(&regime))),
-            Planned::Home => Some(Call::SetRegime(self.world.regimes[0])),
-            Planned::Drop => Some(Call::DropAll),
-            Planned::Write(page) => {
-                let kind = random.pick(&[Kind::Write, Kind::Update]);
-                let mut access = draw_access_of(random, page, kind);
-                access.el0 = random.once_in(4);
-                if access.size > 1 && random.coin() {
-                    access.address = page + 1;
-                }
-                Some(Call::Access(access))
+        let (random, granule) = (&mut self.random, regime.granule);
+        Some(match self.plan.pop()? {
+            Planned::Store(page) => self.draw_store_for(page, session, memory),
+            Planned::Turn(page) => self.draw_turn(page, session, memory),
+            Planned::Reverse(page) => self.draw_reversed(page, &regime, memory),
+            Planned::OtherOrder => Call::SetRegime(other_order(&regime)),
+            Planned::OtherGranule => self.draw_other_granule(session).0,
+            Planned::Home => Call::SetRegime(self.world.regimes[0]),
+            Planned::Drop => Call::DropAll,
+            Planned::Write(page) => Call::Access(draw_write(random, granule, page)),
+            Planned::Look(page) => Call::Access(draw_access(random, granule, page)),
+            Planned::Near(page) => Call::Access(draw_access(random, Granule::Kib4, page)),
+            Planned::Number(number) => {
+                let page = first_of(granule, number);
+                Call::Access(draw_access(random, granule, page))
             }
-            Planned::Look(page) => Some(Call::Access(draw_access(random, page))),
-        }
+        })
     }
 
     /// Perhaps makes a plan; none that stores, where nothing is stored.
@@ -305,6 +358,8 @@ impl Script {
             self.plan_reverse();
         } else if stores && self.world.either_way && self.random.once_in(12) {
             self.plan_other_order();
+        } else if !self.world.shared.is_empty() && self.random.once_in(5) {
+            self.plan_other_granule(regime.granule);
         }
     }
 
@@ -319,13 +374,16 @@ impl Script {
             return;
         }
         let held = self.random.pick(&clean);
-        let page = held.page * GRANULE;
+        let page = first_of(regime.granule, held.page);
         let twin = |other: &&Held| {
             other.leaf.descriptor == held.leaf.descriptor && other.page != held.page
         };
         self.plan = vec![Planned::Look(page), Planned::Write(page)];
         match clean.iter().find(twin) {
-            Some(twin) => self.plan.push(Planned::Write(twin.page * GRANULE)),
+            Some(twin) => {
+                let other = first_of(regime.granule, twin.page);
+                self.plan.push(Planned::Write(other));
+            }
             None if self.mood.store == 0 || self.random.once_in(4) => {}
             None if self.random.once_in(3) => self.plan.push(Planned::Turn(page)),
             None => self.plan.push(Planned::Store(page)),
@@ -335,11 +393,11 @@ impl Script {
     /// Where a page is held: what its tables take away is changed, and it is
     /// looked at; then perhaps all is dropped, and it is looked at again.
     fn plan_turn(&mut self, session: &Session) {
-        let held: Vec<u64> = session.places.iter().flatten().map(|h| h.page).collect();
+        let held = self.held_pages(session);
         if held.is_empty() {
             return;
         }
-        let page = self.random.pick(&held) * GRANULE;
+        let page = self.random.pick(&held);
         let look = Planned::Look(page);
         self.plan = vec![look, look, Planned::Turn(page)];
         if self.mood.drop > 0 && self.random.once_in(3) {
@@ -368,15 +426,44 @@ impl Script {
         self.plan = vec![look, Planned::Write(page), Planned::OtherOrder, store, look];
     }
 
+    /// Where two granules translate an address: it is walked and held under
+    /// one, and walked under the other, as is the page that has there the
+    /// number of the one held.
+    fn plan_other_granule(&mut self, granule: Granule) {
+        let page = self.random.pick(&self.world.shared);
+        let (near, number) = (Planned::Near(page), page_of(granule, page));
+        let write = Planned::Write(page);
+        self.plan = vec![
+            near,
+            Planned::Number(number),
+            Planned::OtherGranule,
+            near,
+            write,
+        ];
+    }
+
+    /// The granule of the session, or else that of home.
+    fn granule(&self, session: &Session) -> Granule {
+        let regime = session.regime.as_ref();
+        regime.unwrap_or(&self.world.regimes[0]).granule
+    }
+
+    /// The first addresses of the pages that are held.
+    fn held_pages(&self, session: &Session) -> Vec<u64> {
+        let granule = self.granule(session);
+        let held = session.places.iter().flatten();
+        held.map(|held| first_of(granule, held.page)).collect()
+    }
+
     /// A held page, a hot one, or any.
     fn draw_page(&mut self, session: &Session) -> u64 {
-        let held: Vec<u64> = session.places.iter().flatten().map(|h| h.page).collect();
+        let held = self.held_pages(session);
         if self.family == "wide" && !self.random.once_in(8) {
             self.hot.rotate_left(1);
             return self.hot[0];
         }
         match self.random.below(12) {
-            0..=3 if !held.is_empty() => self.random.pick(&held) * GRANULE,
+            0..=3 if !held.is_empty() => self.random.pick(&held),
             11 => self.random.pick(&self.world.pages),
             _ => self.random.pick(&self.hot),
         }
@@ -384,17 +471,19 @@ impl Script {
 
     fn draw_good_access(&mut self, session: &Session) -> Access {
         let page = self.draw_page(session);
+        let granule = self.granule(session);
         if self.random.below(8) < self.mood.writes {
             let kind = self.random.pick(&[Kind::Write, Kind::Update]);
-            draw_access_of(&mut self.random, page, kind)
+            draw_access_of(&mut self.random, granule, page, kind)
         } else {
-            draw_access(&mut self.random, page)
+            draw_access(&mut self.random, granule, page)
         }
     }
 
     /// Refused with 6 or 7.
     fn draw_bad_access(&mut self, session: &Session) -> Access {
         let mut access = self.draw_good_access(session);
+        let page = self.granule(session).bytes();
         let random = &mut self.random;
         match random.below(5) {
             0 => access.size = random.pick(&[0, 3, 5, 17, 32, 1 << 32, u64::MAX]),
@@ -413,7 +502,7 @@ impl Script {
             _ => {
                 access.kind = random.pick(&[Kind::Read, Kind::Write, Kind::Update]);
                 access.size = random.pick(&[2, 4, 8, 16]);
-                access.address = (access.address | (GRANULE - 1)) - random.below(access.size - 1);
+                access.address = (access.address | (page - 1)) - random.below(access.size - 1);
             }
         }
         access
@@ -445,6 +534,27 @@ impl Script {
         }
     }
 
+    /// The regime of the moment, with another granule: mostly one of the
+    /// world's, or one that is accepted, where there is such a one.
+    fn draw_other_granule(&mut self, session: &Session) -> (Call, Option<usize>) {
+        let Some(regime) = session.regime else {
+            return self.draw_regime();
+        };
+        let (regimes, length) = (&self.world.regimes, self.world.length);
+        let known = |other: &Regime| regimes.iter().any(|known| known.granule == other.granule);
+        let accepted = |other: &Regime| of_set_regime(length, other).is_none();
+        let wanted: &dyn Fn(&Regime) -> bool = match self.random.below(8) {
+            0 => &|_| true,
+            1 | 2 => &accepted,
+            _ => &|other| known(other) && accepted(other),
+        };
+        let others = regime.granule.others();
+        let others: Vec<Regime> = others.map(|other| with_granule(&regime, other)).collect();
+        let from: Vec<Regime> = others.iter().copied().filter(wanted).collect();
+        let from = if from.is_empty() { others } else { from };
+        (Call::SetRegime(self.random.pick(&from)), None)
+    }
+
     /// A regime to which a row applies, at times two, and which differs from
     /// home in more than that.
     fn draw_bad_regime(&mut self) -> Regime {
@@ -459,30 +569,24 @@ impl Script {
 
     /// Makes some row apply.
     fn spoil(&mut self, regime: &mut Regime) {
+        let length = self.world.memory.len();
         let random = &mut self.random;
         let range = random.below(2) as usize;
-        let pool = &mut regime.pool;
+        let off = draw_off(random, regime.granule);
         match random.pick(SET_REGIME) {
-            1 => match random.below(6) {
-                0 => pool.start += 8,
-                1 => pool.length = 0,
-                2 => pool.length = POOL_LIMIT + GRANULE as usize,
-                3 => pool.start = self.world.memory.len() & !(GRANULE as usize - 1),
-                4 => pool.start = usize::MAX - (GRANULE as usize - 1),
-                _ => pool.length += 1,
-            },
-            2 => match random.below(3) {
-                0 => pool.address |= 1 << random.below(12),
-                1 => pool.address = PHYSICAL_LIMIT,
-                _ => pool.address = u64::MAX - (GRANULE - 1),
+            1 => spoil_pool(random, length, regime),
+            2 => match random.below(4) {
+                0 | 1 => regime.pool.address |= off,
+                2 => regime.pool.address = PHYSICAL_LIMIT,
+                _ => regime.pool.address = regime.granule.floor(u64::MAX),
             },
             3 => match random.below(3) {
                 0 => regime.ranges[range].t = 15,
                 1 => regime.ranges[range].t = 40,
                 _ => regime.output_code = 6,
             },
-            4 => match random.below(2) {
-                0 => regime.ranges[range].root |= 1 << random.below(12),
+            4 => match random.below(3) {
+                0 | 1 => regime.ranges[range].root |= off,
                 _ => regime.ranges[range].root |= 1 << random.between(48, 63),
             },
             5 => {
@@ -562,7 +666,7 @@ impl Script {
                 let value = old.swap_bytes();
                 Call::Store { address, value }
             }
-            None => Call::Access(draw_access(&mut self.random, page)),
+            None => Call::Access(draw_access(&mut self.random, regime.granule, page)),
         }
     }
 
@@ -585,9 +689,9 @@ impl Script {
     /// A descriptor with something changed.
     fn twist(&mut self, regime: &Regime, old: u64) -> u64 {
         let random = &mut self.random;
-        let limit = output_limit(regime.output_code);
-        let granules = regime.pool.length as u64 / GRANULE;
-        let granule = regime.pool.address + GRANULE * random.below(granules);
+        let (limit, granule) = (output_limit(regime.output_code), regime.granule);
+        let table = regime.pool.address + granule.floor(random.below(regime.pool.length as u64));
+        let lead_to = |address| lead_to(granule, old, address);
         let output = random.below(limit);
         let device = regime.attributes.iter().position(|&byte| is_device(byte));
         match random.below(34) {
@@ -601,13 +705,13 @@ impl Script {
             11 => old & !1,
             12 => old ^ 2,
             13 | 14 => old ^ random.between(1, 7) << 2,
-            15 => lead_to(old, output),
-            16 => lead_to(old, limit | output),
-            17 => lead_to(old, regime.pool.address + regime.pool.length as u64),
-            18 => lead_to(old, granule),
-            19 => draw_usable_leaf(random, 3, output, Leaves::Clean),
-            20 => draw_usable_leaf(random, 2, output, Leaves::Clean),
-            21 => draw_table(random, granule),
+            15 => lead_to(output),
+            16 => lead_to(limit | output),
+            17 => lead_to(regime.pool.address + regime.pool.length as u64),
+            18 => lead_to(table),
+            19 => draw_usable_leaf(random, granule, 3, output, Leaves::Clean),
+            20 => draw_usable_leaf(random, granule, 2, output, Leaves::Clean),
+            21 => draw_table(random, granule, table),
             22 => 0,
             // Clean again.
             23 | 24 => set_bit(set_bit(old, AP2, true), DBM, true),
@@ -622,6 +726,44 @@ impl Script {
             _ => random.bits(),
         }
     }
+}
+
+/// A number that is no multiple of a granule, but mostly one of a smaller
+/// granule, where there is one.
+fn draw_off(random: &mut Random, granule: Granule) -> u64 {
+    let bits = granule.page_bits();
+    1 << random.pick(&[3, bits - 4, bits - 4, bits - 2, bits - 1])
+}
+
+/// Makes row 1 apply to a regime, over a memory of some length.
+fn spoil_pool(random: &mut Random, memory_length: usize, regime: &mut Regime) {
+    let (pool, page) = (&mut regime.pool, regime.granule.length());
+    let off = draw_off(random, regime.granule) as usize;
+    match random.below(8) {
+        0 => pool.start += off,
+        // It ends in the memory, if it can.
+        1 | 2 => {
+            pool.start += off;
+            pool.length = pool.length.saturating_sub(page).max(page);
+        }
+        3 => pool.length = 0,
+        4 => pool.length = POOL_LIMIT + page,
+        5 => pool.start = memory_length / page * page,
+        6 => pool.start = usize::MAX - (page - 1),
+        _ => pool.length = pool.length.saturating_sub(off),
+    }
+}
+
+/// A write or update in a page, mostly from EL1, and half of the time at its
+/// second byte.
+fn draw_write(random: &mut Random, granule: Granule, page: u64) -> Access {
+    let kind = random.pick(&[Kind::Write, Kind::Update]);
+    let mut access = draw_access_of(random, granule, page, kind);
+    access.el0 = random.once_in(4);
+    if access.size > 1 && random.coin() {
+        access.address = granule.floor(page) + 1;
+    }
+    access
 }
 
 /// The descriptor addresses on the way to a page, none where the memory is too

@@ -1,17 +1,18 @@
 //! What scripts can meet.
 
+use super::granules::{self, Granular};
 use super::orders::{self, Ordered};
 use super::play::Bytes;
 use crate::boundary::{FAULT, SUCCESS, SUM_BITS};
 use crate::counts::Countable;
 use crate::decisions::Decision;
+use crate::geometry::Granule;
 use crate::limits::{Limit, Octave};
 use crate::orders::with_each_order;
 use crate::reference::{FaultKind, Kind, POOL_LIMIT, TAKING};
 use crate::refusals::{pairs, ACCESS, SET_REGIME, STORE};
 use crate::rule3::Class;
-use crate::session::PLACES;
-use crate::tally::{level_name, End};
+use crate::tally::{level_name, under, End};
 use std::collections::BTreeSet;
 use std::fmt;
 
@@ -135,6 +136,8 @@ pub enum Odd {
     TwoSums,
     /// A hit with HPD on, where bits of the tables would decide.
     HpdOn,
+    /// A regime accepted with its granule spelled with a byte above 2.
+    GranuleByte,
 }
 
 /// What is met in sessions of any bytes (RULES 10.5).
@@ -146,8 +149,8 @@ pub enum Foreign {
     IdleBits,
     /// A hit that the held sum decides, though HPD is on.
     HpdOn,
-    /// A hit on a leaf of level 0.
-    LevelZero,
+    /// A success by a leaf of level 0, where no leaf stands, or no table.
+    LevelZero(Granule),
     /// A walk of a page whose entry has its leaf at no level.
     NoLevel,
     /// A hit that tells an Access flag update, on a leaf with AF 0.
@@ -168,6 +171,17 @@ pub enum Foreign {
     OddEeWalked,
     /// A store accepted with such EE.
     OddEeStored,
+    /// A hit with a granule.
+    HitUnder(Granule),
+    /// A walk to a leaf with a granule.
+    WalkedUnder(Granule),
+    /// Refused with 1, for a start or length that is a multiple of a smaller
+    /// granule.
+    OffPool(Granule, Asked),
+    /// A walk that finds no table, for a root that is one.
+    OffRoot(Granule),
+    /// A hit, or a walk to a leaf, by the byte above 2 that says the granule.
+    GranuleByte(u8),
 }
 
 impl Foreign {
@@ -177,7 +191,6 @@ impl Foreign {
         let alone = [
             Foreign::IdleBits,
             Foreign::HpdOn,
-            Foreign::LevelZero,
             Foreign::NoLevel,
             Foreign::ToldAccessed,
             Foreign::AccessFlag,
@@ -187,7 +200,23 @@ impl Foreign {
         let of_order = [Foreign::HitWith, Foreign::WalkedWith, Foreign::StoredWith];
         let orders = of_order.into_iter().flat_map(|of| [of(false), of(true)]);
         let sums = (0..=SUM_BITS).map(Foreign::Sum);
-        sums.chain(alone).chain(under).chain(orders)
+        let bytes = (3..=0xFF).map(Foreign::GranuleByte);
+        let each = sums.chain(alone).chain(under).chain(orders).chain(bytes);
+        each.chain(Granule::ALL.into_iter().flat_map(Foreign::under))
+    }
+
+    /// What is to be met with a granule.
+    fn under(granule: Granule) -> Vec<Self> {
+        let mut all = vec![
+            Foreign::HitUnder(granule),
+            Foreign::WalkedUnder(granule),
+            Foreign::LevelZero(granule),
+        ];
+        if granule.smaller().next().is_some() {
+            all.push(Foreign::OffRoot(granule));
+            all.extend([Asked::Access, Asked::Store].map(|asked| Foreign::OffPool(granule, asked)));
+        }
+        all
     }
 }
 
@@ -211,8 +240,6 @@ pub enum Feature {
     RefusedHeld(u8),
     Ended(End),
     Hit(End, bool, Kind),
-    HitLevel(u8),
-    HitPlace(u8),
     HitSince(Since),
     /// A hit where the plain walk would say otherwise.
     Stale(End),
@@ -228,6 +255,8 @@ pub enum Feature {
     OtherSum(Emptying),
     /// Under a regime with EE or without.
     Ordered(bool, Ordered),
+    /// Under a regime of a granule, or one that is to be set.
+    Granular(Granule, Granular),
     Limit(Asked, Limit),
     /// A leaf that an access marked, by its place in the pool.
     Marked(Octave),
@@ -269,7 +298,6 @@ impl fmt::Display for Feature {
             F::DropAll(stood, held) => write!(out, "{} / {}", yes(stood), yes(held)),
             F::Ended(end) | F::Stale(end) => write!(out, "{end}"),
             F::Hit(end, el0, kind) => write!(out, "{end} {} {kind:?}", level_name(el0)),
-            F::HitLevel(number) | F::HitPlace(number) => write!(out, "{number}"),
             F::HitSince(since) => write!(out, "{since:?}"),
             F::Rewalk(kind, end, dirtied) => {
                 let mark = if dirtied { " dirty" } else { "" };
@@ -284,6 +312,7 @@ impl fmt::Display for Feature {
             F::StaleSum(bit, false) => write!(out, "{bit} not held"),
             F::Emptied(by) | F::OtherSum(by) => write!(out, "{by:?}"),
             F::Ordered(_, what) => write!(out, "{what}"),
+            F::Granular(_, what) => write!(out, "{what}"),
             F::Limit(asked, limit) => write!(out, "{asked:?} {limit:?}"),
             F::Marked(octave) | F::Stored(octave) => write!(out, "{octave}"),
             F::Odd(odd) => write!(out, "{odd:?}"),
@@ -313,8 +342,6 @@ impl Countable for Feature {
             F::RefusedHeld(_) => "accesses of a held page refused",
             F::Ended(_) => "accesses answered",
             F::Hit(..) => "hits",
-            F::HitLevel(_) => "hits by level",
-            F::HitPlace(_) => "hits by place",
             F::HitSince(_) => "hits by what came since the walk",
             F::Stale(_) => "hits where a walk would differ, by that walk",
             F::HitDecided(_) => "hits that a bit of the held sum decides",
@@ -325,9 +352,10 @@ impl Countable for Feature {
             F::OtherSum(_) => "the same with another sum than it was held with",
             F::Ordered(true, _) => "with EE",
             F::Ordered(false, _) => "without EE",
+            F::Granular(granule, _) => under(*granule),
             F::Limit(..) => "limits of memory and pool",
-            F::Marked(_) => "leaves marked, by granule of the pool",
-            F::Stored(_) => "stores accepted, by granule of the pool",
+            F::Marked(_) => "leaves marked, by 4 KiB of the pool",
+            F::Stored(_) => "stores accepted, by 4 KiB of the pool",
             F::Odd(_) => "odd",
             F::Foreign(_) => "sessions of any bytes",
             F::FirstHalf(_) => "rule 3, first half",
@@ -344,6 +372,10 @@ impl Countable for Feature {
         walks(&mut all);
         lengths(&mut all);
         all.extend(with_each_order(Ordered::all()).map(|(ee, what)| F::Ordered(ee, what)));
+        for granule in Granule::ALL {
+            let granular = Granular::all(granule).into_iter();
+            all.extend(granular.map(|what| F::Granular(granule, what)));
+        }
         all.extend(Foreign::all().map(F::Foreign));
         all.extend([false, true].map(F::FirstHalf));
         all.insert(F::InScript(Class::NoRegime));
@@ -363,6 +395,7 @@ impl Countable for Feature {
     fn least(&self) -> u64 {
         match self {
             F::Ordered(..) => orders::LEAST,
+            F::Granular(..) => granules::LEAST,
             _ => 1,
         }
     }
@@ -424,8 +457,6 @@ fn hits(all: &mut BTreeSet<Feature>) {
             }
         }
     }
-    all.extend((1..=3).map(F::HitLevel));
-    all.extend((0..PLACES as u8).map(F::HitPlace));
     all.extend([Since::Store, Since::RefusedStore, Since::RefusedRegime].map(F::HitSince));
     all.extend([Since::RefusedAccess, Since::PasserBy, Since::FailedRewalk].map(F::HitSince));
     all.insert(F::Stale(End::Success));
@@ -434,6 +465,7 @@ fn hits(all: &mut BTreeSet<Feature>) {
     all.extend([Odd::CleanFault, Odd::CleanProbe, Odd::ManyHeld].map(F::Odd));
     all.extend([Odd::NineBeforeOne, Odd::OtherLength, Odd::Unsaid].map(F::Odd));
     all.extend([Odd::CleanTaken, Odd::RewalkTaken, Odd::TwoSums, Odd::HpdOn].map(F::Odd));
+    all.insert(F::Odd(Odd::GranuleByte));
     all.extend(Decision::all().map(F::HitDecided));
     for held in [false, true] {
         all.extend(TAKING.map(|bit| F::StaleSum(bit, held)));

@@ -6,13 +6,14 @@ use super::tally::Tally;
 use super::world::{draw_usable_leaf, vary, Leaves, World};
 use crate::boundary::{CEntry, CSession, Spelling, Subject, SUM_BITS};
 use crate::cases::scene::{draw_access, draw_table, HD_ALONE};
+use crate::geometry::{Granule, PHYSICAL_LIMIT};
 use crate::random::Random;
-use crate::reference::{Regime, GRANULE, PHYSICAL_LIMIT};
-use crate::session::{page_of, Call, Session, PLACES};
+use crate::reference::Regime;
+use crate::session::{first_of, page_of, Call, Session, PLACES};
 use std::array;
 
 const FAMILY: &str = "foreign";
-const SESSIONS: u64 = 1_000;
+const SESSIONS: u64 = 1_400;
 const CALLS: u32 = 24;
 
 /// A session of any bytes, held against what the reference reads in them.
@@ -35,9 +36,8 @@ pub fn run_all<S: Subject>(
     for number in 1..=SESSIONS {
         tally.begin(FAMILY);
         let mut random = Random::new(random.bits());
-        let world = World::planned(&mut random, Leaves::Mixed);
+        let (world, bytes) = draw(&mut random, number);
         let mut subject = fresh(random.bits())?;
-        let bytes = draw_bytes(&mut random, &world);
         subject.put(&bytes);
         let mut guest = Guest {
             bytes,
@@ -48,7 +48,8 @@ pub fn run_all<S: Subject>(
             calls: Vec::new(),
         };
         for _ in 0..CALLS {
-            let call = guest.draw_call(&mut random, &world);
+            let keep = byte_of(number).is_some();
+            let call = guest.draw_call(&mut random, &world, keep);
             let spelling = Spelling::draw(&mut random);
             if trace {
                 eprintln!("session {number} of any bytes: {call:x?}");
@@ -78,23 +79,31 @@ impl<S: Subject> Guest<S> {
         if !why.is_empty() {
             return Err(why);
         }
-        tally.note_foreign(&self.bytes, &before, &call, &got, seen.as_ref());
+        tally.note_foreign(&self.bytes, &before, length, &call, &got, seen.as_ref());
         Ok(())
     }
 
-    /// Mostly an access of a page that one of the entries names.
-    fn draw_call(&self, random: &mut Random, world: &World) -> Call {
+    /// The granule of the moment, or else that of home.
+    fn granule(&self, world: &World) -> Granule {
+        let regime = self.session.regime.as_ref();
+        regime.unwrap_or(&world.regimes[0]).granule
+    }
+
+    /// Mostly an access of a page that one of the entries names. None that
+    /// empties the entries, where the session is to be kept.
+    fn draw_call(&self, random: &mut Random, world: &World, keep: bool) -> Call {
         match random.below(24) {
-            0 => Call::DropAll,
-            1 => Call::SetRegime(random.pick(&world.regimes)),
+            0 if !keep => Call::DropAll,
+            1 if !keep => Call::SetRegime(random.pick(&world.regimes)),
             2 | 3 => self.draw_store(random, world),
             _ => {
+                let granule = self.granule(world);
                 let named = random.pick(&self.bytes.entries).page;
                 let page = match random.below(6) {
                     0 => random.pick(&world.pages),
-                    _ => named.wrapping_mul(GRANULE),
+                    _ => first_of(granule, named),
                 };
-                Call::Access(draw_access(random, page))
+                Call::Access(draw_access(random, granule, page))
             }
         }
     }
@@ -106,12 +115,13 @@ impl<S: Subject> Guest<S> {
             .map_or(world.regimes[0].pool, |r| r.pool);
         let number = random.below(pool.length as u64 / 8 + 1);
         let output = random.below(PHYSICAL_LIMIT);
+        let granule = self.granule(world);
         Call::Store {
             address: pool.address.wrapping_add(number.wrapping_mul(8)),
             value: match random.below(3) {
                 0 => random.bits(),
-                1 => draw_table(random, world.regimes[0].pool.address),
-                _ => draw_usable_leaf(random, 3, output, Leaves::Clean),
+                1 => draw_table(random, granule, world.regimes[0].pool.address),
+                _ => draw_usable_leaf(random, granule, 3, output, Leaves::Clean),
             },
         }
     }
@@ -126,11 +136,39 @@ impl<S: Subject> Guest<S> {
     }
 }
 
+/// In the first sessions each byte above 2 says 4 KiB in turn.
+fn byte_of(number: u64) -> Option<u8> {
+    u8::try_from(number + 2).ok()
+}
+
+/// A world and a session in it; where a byte is to say the granule, home is
+/// its regime.
+fn draw(random: &mut Random, number: u64) -> (World, CSession) {
+    let others = [Granule::Kib16, Granule::Kib64];
+    let byte = byte_of(number);
+    let granule = match byte {
+        None if random.coin() => random.pick(&others),
+        _ => Granule::Kib4,
+    };
+    let world = World::planned(random, granule, Leaves::Mixed);
+    let mut bytes = draw_bytes(random, &world);
+    if let Some(kib_4) = byte {
+        let spelling = Spelling {
+            kib_4,
+            ..Spelling::draw(random)
+        };
+        bytes.regime = spelling.regime(&world.regimes[0]);
+        bytes.set = 1;
+    }
+    (world, bytes)
+}
+
 fn draw_bytes(random: &mut Random, world: &World) -> CSession {
     let regime = draw_regime(random, &world.regimes[0]);
+    let granule = regime.granule;
     CSession {
         regime: Spelling::draw(random).regime(&regime),
-        entries: array::from_fn(|place| draw_entry(random, world, place as u64)),
+        entries: array::from_fn(|place| draw_entry(random, world, granule, place as u64)),
         set: random.pick(&[0, 1, 1, 1, 1, 2, 0x80, 0xFF]),
         spare: array::from_fn(|_| random.bits() as u8),
     }
@@ -144,14 +182,20 @@ fn draw_regime(random: &mut Random, home: &Regime) -> Regime {
         vary(random, home)
     };
     let range = random.below(2) as usize;
-    match random.below(16) {
+    let bits = u64::from(regime.granule.page_bits());
+    match random.below(18) {
         0 => regime.pool.start = random.pick(&[8, usize::MAX, usize::MAX - 4095]),
-        1 => regime.pool.address |= 1 << random.below(12),
+        1 => regime.pool.address |= 1 << random.below(bits),
         2 => regime.pool.address = random.pick(&[PHYSICAL_LIMIT, u64::MAX, u64::MAX - 4095]),
         3 => regime.ranges[range].t = random.pick(&[0, 1, 15, 40, 63, 64, 0xFF]),
         4 => regime.output_code = random.pick(&[6, 7, 8, 0xFF]),
-        5 => regime.ranges[range].root |= 1 << random.below(12),
+        5 => regime.ranges[range].root |= 1 << random.between(bits - 4, bits - 1),
         6 => regime.ranges[range].root |= 1 << random.between(48, 63),
+        // A multiple of a smaller granule at most.
+        9 | 10 => {
+            let off = 1 << random.between(bits - 4, bits - 1);
+            regime.pool.length = regime.pool.length.saturating_sub(off);
+        }
         7 => regime.attributes = random.bits().to_le_bytes(),
         8 => (regime.ha, regime.hd) = HD_ALONE,
         _ => {}
@@ -160,8 +204,8 @@ fn draw_regime(random: &mut Random, home: &Regime) -> Regime {
 }
 
 /// An entry of any bytes, or one that mostly holds a page of its place.
-fn draw_entry(random: &mut Random, world: &World, place: u64) -> CEntry {
-    let near = page_of(random.pick(&world.pages));
+fn draw_entry(random: &mut Random, world: &World, granule: Granule, place: u64) -> CEntry {
+    let near = page_of(granule, random.pick(&world.pages));
     let output = random.below(PHYSICAL_LIMIT);
     let level = random.between(1, 3) as usize;
     let any = random.bits();
@@ -172,7 +216,7 @@ fn draw_entry(random: &mut Random, world: &World, place: u64) -> CEntry {
         },
         value: match random.below(6) {
             0 => random.bits(),
-            _ => draw_usable_leaf(random, level, output, Leaves::Mixed),
+            _ => draw_usable_leaf(random, granule, level, output, Leaves::Mixed),
         },
         left: random.pick(&[0, 0, 0, 1, 1, 2, 2, 3, 4, 0x83, 0xFF]),
         held: random.pick(&[0, 1, 1, 1, 1, 2, 0x80, 0xFF]),

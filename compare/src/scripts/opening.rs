@@ -5,7 +5,7 @@
 use super::world::{Ends, World};
 use crate::cases::scene::{draw_access, draw_marking_access};
 use crate::random::Random;
-use crate::reference::{Regime, GRANULE};
+use crate::reference::Regime;
 use crate::session::Call;
 
 /// The calls, each with the length that it is lent.
@@ -13,9 +13,10 @@ pub fn draw(random: &mut Random, world: &World, ends: &Ends) -> Vec<(Call, usize
     let (usual, all) = (world.length, world.memory.len());
     let home = world.regimes[0];
     let end = home.pool.address + home.pool.length as u64;
-    let access = Call::Access(draw_marking_access(random, ends.last));
-    let again = Call::Access(draw_access(random, ends.last));
-    let behind = Call::Access(draw_access(random, ends.behind));
+    let granule = home.granule;
+    let access = Call::Access(draw_marking_access(random, granule, ends.last));
+    let again = Call::Access(draw_access(random, granule, ends.last));
+    let behind = Call::Access(draw_access(random, granule, ends.behind));
     let store = store_at(random, end - 8);
     let store_behind = store_at(random, end);
     vec![
@@ -45,12 +46,12 @@ fn store_at(random: &mut Random, address: u64) -> Call {
 
 /// The pool ends a granule later.
 fn longer(mut regime: Regime) -> Regime {
-    regime.pool.length += GRANULE as usize;
+    regime.pool.length += regime.granule.length();
     regime
 }
 
 /// The pool lies a granule further up.
 fn later(mut regime: Regime) -> Regime {
-    regime.pool.start += GRANULE as usize;
+    regime.pool.start += regime.granule.length();
     regime
 }

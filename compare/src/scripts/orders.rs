@@ -5,7 +5,7 @@ use crate::boundary::Reply;
 use crate::reference::{offset_in_memory, Access, Answer, FaultKind, Regime, Walk};
 use crate::reversed::other_order;
 use crate::rule3::{History, Past};
-use crate::session::{page_of, Call, Way};
+use crate::session::{Call, Way};
 use crate::tally::{marks_name, End};
 use std::fmt;
 
@@ -137,7 +137,7 @@ fn was_held(history: &History, past: Past, regime: &Regime, access: &Access) -> 
         let last = before.regime();
         last.is_some_and(|last| last.ee != regime.ee)
     });
-    before.is_some_and(|before| before.remembers(page_of(access.address)))
+    before.is_some_and(|before| before.remembers(access.address))
 }
 
 /// What a walk to a leaf meets of stores in the other order.

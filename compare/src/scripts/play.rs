@@ -6,8 +6,9 @@ use super::tally::Tally;
 use super::Step;
 use crate::boundary::{plain_answer, Reply, Spelling, Subject};
 use crate::cases::scene::{draw_access_of, Scene};
+use crate::geometry::Granule;
 use crate::random::Random;
-use crate::reference::{Access, Answer, Kind, Regime, GRANULE};
+use crate::reference::{Access, Answer, Kind, Regime};
 use crate::refusals::row_1;
 use crate::rule3::History;
 use crate::session::{Call, Session, Way, PLACES};
@@ -41,6 +42,9 @@ impl Bytes {
         scene.memory
     }
 }
+
+/// For each so many bytes of memory, fewer pages are asked for after a script.
+const LONG_MEMORY: usize = 1 << 16;
 
 /// Bytes kept on both sides of the memory; nobody may touch them.
 const MARGIN: usize = 64;
@@ -142,6 +146,7 @@ impl<'a, S: Subject> Play<'a, S> {
             Ok(checked) if why.is_empty() => {
                 self.tally
                     .note(&self.history, &before, seen.as_ref(), &checked);
+                self.tally.note_spelling(step, &got);
                 return Ok(());
             }
             Ok(_) => {}
@@ -153,27 +158,19 @@ impl<'a, S: Subject> Play<'a, S> {
     /// Asks for each page that was used, and for one beside it, in every
     /// kind and over three memories; each time from where the script ended.
     fn probe(&mut self, script: &mut Script) -> Result<(), Vec<String>> {
-        let used = self.history.events().iter().filter_map(|e| match e.call {
-            Call::Access(access) => Some(access.address & !(GRANULE - 1)),
-            _ => None,
-        });
-        let mut pages: BTreeSet<u64> = used.collect();
-        for page in pages.clone() {
-            let far = 1 << script.random.between(12, 63);
-            let near = PLACES as u64 * GRANULE;
-            pages.insert(page ^ script.random.pick(&[near, far]));
-        }
+        let home = script.world.regimes[0];
+        let granule = self.session.regime.unwrap_or(home).granule;
+        let pages = self.pages_to_probe(script, granule);
         let lent = match self.session.regime {
-            Some(regime) if row_1(script.world.length, &regime.pool) => self.memory.len(),
+            Some(regime) if row_1(script.world.length, &regime) => self.memory.len(),
             _ => script.world.length,
         };
         for bytes in Bytes::ALL {
-            let home = &script.world.regimes[0];
-            let memory = bytes.fill(&mut script.random, &self.memory, home);
+            let memory = bytes.fill(&mut script.random, &self.memory, &home);
             let mut scratch = Scratch::new(&memory, self.arena.start - MARGIN);
             for &page in &pages {
                 for kind in Kind::ALL {
-                    let access = draw_access_of(&mut script.random, page, kind);
+                    let access = draw_access_of(&mut script.random, granule, page, kind);
                     let step = Step {
                         call: Call::Access(access),
                         lent,
@@ -185,6 +182,25 @@ impl<'a, S: Subject> Play<'a, S> {
             }
         }
         Ok(())
+    }
+
+    /// The pages that were used, and one beside each; in a long memory a part
+    /// of them.
+    fn pages_to_probe(&self, script: &mut Script, granule: Granule) -> BTreeSet<u64> {
+        let used = self.history.events().iter().filter_map(|e| match e.call {
+            Call::Access(access) => Some(granule.floor(access.address)),
+            _ => None,
+        });
+        let mut pages: BTreeSet<u64> = used.collect();
+        for page in pages.clone() {
+            let lowest = u64::from(granule.page_bits());
+            let far = 1 << script.random.between(lowest, 63);
+            let near = PLACES as u64 * granule.bytes();
+            pages.insert(page ^ script.random.pick(&[near, far]));
+        }
+        let share = 1 + (self.memory.len() / LONG_MEMORY) as u64;
+        pages.retain(|_| script.random.once_in(share));
+        pages
     }
 
     /// One access on copies of both sessions.
@@ -327,7 +343,7 @@ pub(super) fn differences(
     let mut why = Vec::new();
     if got != wanted {
         why.push(format!(
-            "the replies differ: the reference's is {wanted:x?}"
+            "the replies differ: the reference's is {wanted:x?}, the other {got:x?}"
         ));
     }
     if arena.memory() != memory {

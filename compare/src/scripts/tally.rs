@@ -5,21 +5,23 @@ use super::features::{
     Asked, Before, Effect, Emptying, Feature, Feature as F, Foreign, Odd, Off, Since, Sum, Switch,
     Target,
 };
-use super::orders;
 use super::play::Bytes;
+use super::{granules, orders, Step};
 use crate::boundary::{
     plain_answer, CAnswer, CEntry, CRegime, CSession, Reply, FAULT, REFUSED, SUCCESS, SUM_BITS,
 };
 use crate::counts::{report_families, Counts};
 use crate::decisions::{decided, succeeds};
+use crate::geometry::{Granule, PHYSICAL_LIMIT};
+use crate::granules::Field;
 use crate::limits::{self, Limit, Octave};
 use crate::reference::{
     bit, look, offset_in_memory, read_descriptor, writable_clean, Access, Answer, FaultKind, Kind,
-    Leaf, Regime, Walk, AF, AP2, AP_TABLE_1, MEMORY_LIMIT, PHYSICAL_LIMIT, PXN_TABLE, TAKING,
+    Leaf, Regime, Walk, AF, AP2, AP_TABLE_1, MEMORY_LIMIT, PXN_TABLE, TAKING,
 };
-use crate::refusals::all_of_set_regime;
+use crate::refusals::{all_of_set_regime, finds_no_table, row_1};
 use crate::rule3::{Checked, Class, Event, History};
-use crate::session::{page_of, place_of, Call, Held, Session, Way};
+use crate::session::{first_of, page_of, place_of, Call, Held, Session, Way};
 use crate::tally::End;
 use std::collections::{BTreeMap, BTreeSet};
 
@@ -103,11 +105,25 @@ impl Tally {
         }
     }
 
-    /// What the last call meets with EE or without.
+    /// How the granule of an accepted regime was spelled.
+    pub fn note_spelling(&mut self, step: &Step, reply: &Reply) {
+        if let (Call::SetRegime(regime), Reply::Changed(0)) = (step.call, reply) {
+            if step.spelling.regime(&regime).granule > 2 {
+                self.meet(F::Odd(Odd::GranuleByte));
+            }
+        }
+    }
+
+    /// What the last call meets with EE or without, and under its granule.
     fn note_order(&mut self, history: &History, seen: Option<&(Answer, Way)>) {
         if let Some((ee, met)) = orders::of(history, seen) {
             for what in met {
                 self.meet(F::Ordered(ee, what));
+            }
+        }
+        if let Some((granule, met)) = granules::of(history, seen) {
+            for what in met {
+                self.meet(F::Granular(granule, what));
             }
         }
     }
@@ -124,12 +140,12 @@ impl Tally {
             }
             _ => return,
         };
-        let Some(Regime { pool, .. }) = regime else {
+        let Some(regime) = regime else {
             return;
         };
         let at: Vec<Limit> = match refusal {
-            0 => limits::kept(event.lent, &pool).collect(),
-            1 => limits::passed(event.lent, &pool).into_iter().collect(),
+            0 => limits::kept(event.lent, &regime.pool).collect(),
+            1 => limits::passed(event.lent, &regime).into_iter().collect(),
             _ => Vec::new(),
         };
         for limit in at {
@@ -197,7 +213,7 @@ impl Tally {
         let mut leaf_of = 0;
         let mut table_of = 0;
         for held in session.places.iter().flatten() {
-            let visited = look(memory, regime, &read_of(held.page)).visited;
+            let visited = look(memory, regime, &read_of(regime.granule, held.page)).visited;
             if visited.last() == Some(&address) {
                 leaf_of += 1;
             } else if visited.contains(&address) {
@@ -266,7 +282,10 @@ impl Tally {
         wanted: &Answer,
         way: &Way,
     ) {
-        let page = page_of(access.address);
+        let granule = session
+            .regime
+            .map_or(Granule::Kib4, |regime| regime.granule);
+        let page = page_of(granule, access.address);
         let place = session.places[place_of(page)];
         let held = place.filter(|held| held.page == page);
         let end = match wanted {
@@ -307,8 +326,6 @@ impl Tally {
                     End::Fault(_) => Sum::HitFault,
                 }));
                 self.meet(F::Hit(end, access.el0, access.kind));
-                self.meet(F::HitLevel(answer.level));
-                self.meet(F::HitPlace(place_of(page) as u8));
                 self.note_hit(history, session, access, answer);
             }
             Way::Walked(walk) => self.note_emptied(history, access, walk),
@@ -332,10 +349,11 @@ impl Tally {
     ) {
         let events = history.events();
         let at = events.len() - 1;
-        let page = page_of(access.address);
-        let Some(walked) = history.before(at).last_walk_at(page) else {
+        let Some(walked) = history.before(at).last_walk_at(access.address) else {
             return;
         };
+        let Some(regime) = session.regime else { return };
+        let page = page_of(regime.granule, access.address);
         let mut since = BTreeSet::new();
         for event in &events[walked + 1..at] {
             match (event.call, event.is_accepted()) {
@@ -344,7 +362,7 @@ impl Tally {
                 (Call::SetRegime(_), _) => since.insert(Since::RefusedRegime),
                 (Call::Access(_), false) => since.insert(Since::RefusedAccess),
                 (Call::Access(other), true) if event.rememberable().is_none() => {
-                    let passed = page_of(other.address);
+                    let passed = page_of(regime.granule, other.address);
                     let there = place_of(passed) == place_of(page);
                     if there && passed == page {
                         since.insert(Since::FailedRewalk);
@@ -368,7 +386,6 @@ impl Tally {
             self.meet(F::Odd(Odd::OtherLength));
         }
 
-        let Some(regime) = session.regime else { return };
         let held = session.places[place_of(page)];
         let clean = held.is_some_and(|held| writable_clean(&regime, &held.leaf));
         if clean && access.kind.changes_data() && answer.tag == FAULT {
@@ -471,13 +488,12 @@ impl Tally {
 
     /// A walk of a page that was held until the last emptying.
     fn note_emptied(&mut self, history: &History, access: &Access, walk: &Walk) {
-        let page = page_of(access.address);
         let at = history.events().len() - 1;
         let Some(emptying) = history.before(at).last_emptying() else {
             return;
         };
         let past = history.before(emptying);
-        if past.remembers(page) {
+        if past.remembers(access.address) {
             let by = match history.events()[emptying].call {
                 Call::SetRegime(regime) if past.regime() == Some(regime) => Emptying::SameRegime,
                 Call::SetRegime(_) => Emptying::OtherRegime,
@@ -498,6 +514,7 @@ impl Tally {
         &mut self,
         bytes: &CSession,
         session: &Session,
+        lent: usize,
         call: &Call,
         reply: &Reply,
         seen: Option<&(Answer, Way)>,
@@ -506,10 +523,11 @@ impl Tally {
         let Some(regime) = session.regime else { return };
         let way = seen.map(|(_, way)| way);
         self.note_foreign_order(&bytes.regime, &regime, call, reply, way);
+        self.note_foreign_granule(&bytes.regime, &regime, lent, reply, way);
         let (Call::Access(access), Some((answer, way))) = (call, seen) else {
             return;
         };
-        let page = page_of(access.address);
+        let page = page_of(regime.granule, access.address);
         let entry = &bytes.entries[place_of(page)];
         let rows = all_of_set_regime(0, &regime).filter(|&row| row != 1);
         match (way, session.places[place_of(page)]) {
@@ -555,6 +573,46 @@ impl Tally {
         }
     }
 
+    /// The granule of such a session, and how its bytes spell it.
+    fn note_foreign_granule(
+        &mut self,
+        bytes: &CRegime,
+        regime: &Regime,
+        lent: usize,
+        reply: &Reply,
+        way: Option<&Way>,
+    ) {
+        let granule = regime.granule;
+        let used = match way {
+            Some(Way::Held) => Foreign::HitUnder(granule),
+            Some(Way::Walked(walk) | Way::WalkedAgain(walk)) if walk.leaf.is_some() => {
+                Foreign::WalkedUnder(granule)
+            }
+            _ => return self.note_foreign_off(regime, lent, reply, way),
+        };
+        self.meet(F::Foreign(used));
+        // Until a regime is set.
+        if bytes.granule > 2 && bytes.read() == *regime {
+            self.meet(F::Foreign(Foreign::GranuleByte(bytes.granule)));
+        }
+    }
+
+    /// Numbers of its regime that are multiples of a smaller granule alone.
+    fn note_foreign_off(&mut self, regime: &Regime, lent: usize, reply: &Reply, way: Option<&Way>) {
+        let off_pool = || Field::off(regime, 1, |other| row_1(lent, other)).is_some();
+        let off_root = || Field::off(regime, 4, finds_no_table).is_some();
+        let granule = regime.granule;
+        let met = match (reply, way) {
+            (Reply::Changed(1), _) if off_pool() => Foreign::OffPool(granule, Asked::Store),
+            (Reply::Answered(answer), Some(Way::Refused)) if answer.refusal == 1 && off_pool() => {
+                Foreign::OffPool(granule, Asked::Access)
+            }
+            (_, Some(Way::Walked(_))) if off_root() => Foreign::OffRoot(granule),
+            _ => return,
+        };
+        self.meet(F::Foreign(met));
+    }
+
     fn note_foreign_hit(
         &mut self,
         regime: &Regime,
@@ -573,8 +631,8 @@ impl Tally {
         if regime.ranges[range].hpd && ends(0) != ends(leaf.taken) {
             self.meet(F::Foreign(Foreign::HpdOn));
         }
-        if leaf.level == 0 {
-            self.meet(F::Foreign(Foreign::LevelZero));
+        if leaf.level == 0 && matches!(answer, Answer::Success(_)) {
+            self.meet(F::Foreign(Foreign::LevelZero(regime.granule)));
         }
         match answer {
             Answer::Success(success) if success.accessed => {
@@ -614,9 +672,7 @@ impl Tally {
 
 /// The sum with which the page of an access was held before an event.
 fn held_sum(history: &History, before: usize, access: &Access) -> Option<u64> {
-    let walked = history
-        .before(before)
-        .last_walk_at(page_of(access.address))?;
+    let walked = history.before(before).last_walk_at(access.address)?;
     let regime = history.before(walked).regime()?;
     let event = &history.events()[walked];
     let walk = look(&history.left(event)[..event.lent], &regime, access);
@@ -624,9 +680,9 @@ fn held_sum(history: &History, before: usize, access: &Access) -> Option<u64> {
 }
 
 /// A read of one byte of a page.
-fn read_of(page: u64) -> Access {
+fn read_of(granule: Granule, page: u64) -> Access {
     Access {
-        address: page << 12,
+        address: first_of(granule, page),
         size: 1,
         el0: false,
         kind: Kind::Read,

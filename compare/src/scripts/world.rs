@@ -2,19 +2,20 @@
 //! them, and pages worth asking for.
 
 use crate::cases::scene::{
-    draw_clean_leaf, draw_device, draw_granules, draw_leaf, draw_normal, draw_table, draw_updates,
-    Placement, Scene, ENTRIES, SHORT, WHOLE,
+    draw_clean_leaf, draw_device, draw_granules, draw_leaf, draw_normal, draw_t,
+    draw_t_with_tables, draw_table, draw_updates, short_pool, Placement, Scene, Sketch, WHOLE,
 };
-use crate::limits::POOL_GRANULES;
+use crate::geometry::{Granule, LAST_LEVEL};
+use crate::granules::with_granule;
+use crate::limits::longest_pool;
 use crate::random::Random;
-use crate::reference::{
-    first_level, lowest_index_bit, Regime, ADDRESS_FIELD, AF, AP1, AP2, DBM, GRANULE, MEMORY_LIMIT,
-};
+use crate::reference::{Regime, AF, AP1, AP2, DBM, MEMORY_LIMIT};
 use crate::refusals;
 use crate::reversed::other_order;
 use crate::session::PLACES;
 
-const PAGE: usize = GRANULE as usize;
+/// The level of the pages, as an index.
+const PAGES: usize = LAST_LEVEL as usize;
 
 /// Which leaves a world has.
 #[derive(Clone, Copy, Debug, PartialEq, Eq)]
@@ -37,6 +38,8 @@ pub struct World {
     pub pages: Vec<u64>,
     /// Its tables are tables in either byte order.
     pub either_way: bool,
+    /// Addresses that two of its regimes translate, each by its granule.
+    pub shared: Vec<u64>,
     /// Pages at the end of the pool, where the world was made for them.
     pub ends: Option<Ends>,
 }
@@ -55,8 +58,14 @@ pub fn set_bit(value: u64, place: u32, to: bool) -> u64 {
 }
 
 /// A leaf that most accesses can use.
-pub fn draw_usable_leaf(random: &mut Random, level: usize, output: u64, leaves: Leaves) -> u64 {
-    let leaf = draw_leaf(random, level, output);
+pub fn draw_usable_leaf(
+    random: &mut Random,
+    granule: Granule,
+    level: usize,
+    output: u64,
+    leaves: Leaves,
+) -> u64 {
+    let leaf = draw_leaf(random, granule, level, output);
     if leaves == Leaves::Mixed && random.coin() {
         return leaf;
     }
@@ -68,6 +77,7 @@ pub fn draw_usable_leaf(random: &mut Random, level: usize, output: u64, leaves: 
 
 /// The tables of one range: one for each level, and the way down them.
 struct Tree {
+    granule: Granule,
     range: usize,
     first: usize,
     tables: [u64; 4],
@@ -78,46 +88,67 @@ struct Tree {
 impl Tree {
     fn draw(random: &mut Random, scene: &mut Scene, range: usize, leaves: Leaves) -> Tree {
         let base = random.below(scene.granules());
-        Tree::draw_from(base, random, scene, range, leaves)
+        let mut tree = Tree::based(scene, base, range, leaves);
+        tree.draw_trunk(random, scene);
+        tree.plant(random, scene);
+        tree
     }
 
     /// The same in the last granules of a pool that has one for each level.
     fn draw_at_end(random: &mut Random, scene: &mut Scene, range: usize, leaves: Leaves) -> Tree {
-        let first = first_level(scene.regime.ranges[range].t);
+        let first = scene
+            .regime
+            .granule
+            .first_level(scene.regime.ranges[range].t);
         let base = scene.granules() - u64::from(4 - first);
-        Tree::draw_from(base, random, scene, range, leaves)
+        let mut tree = Tree::based(scene, base, range, leaves);
+        tree.draw_trunk(random, scene);
+        tree.plant(random, scene);
+        tree
     }
 
-    /// The table of the first level is the granule with a number.
-    fn draw_from(
-        base: u64,
-        random: &mut Random,
-        scene: &mut Scene,
-        range: usize,
-        leaves: Leaves,
-    ) -> Tree {
-        let first = usize::from(first_level(scene.regime.ranges[range].t));
+    /// The table of the first level is the granule with a number. A granule
+    /// for each level; where there are too few, some serve two.
+    fn based(scene: &Scene, base: u64, range: usize, leaves: Leaves) -> Tree {
+        let granule = scene.regime.granule;
+        let first = usize::from(granule.first_level(scene.regime.ranges[range].t));
         let mut tree = Tree {
+            granule,
             range,
             first,
             tables: [0; 4],
             trunk: [0; 4],
             leaves,
         };
-        // A granule for each level; where there are too few, some serve two.
-        let granules = scene.granules();
-        for level in first..=3 {
-            let number = (base + (level - first) as u64) % granules;
+        for level in first..=PAGES {
+            let number = (base + (level - first) as u64) % scene.granules();
             tree.tables[level] = scene.granule(number);
-            tree.trunk[level] = scene.draw_index(random, range, level);
         }
-        scene.regime.ranges[range].root = tree.tables[first];
-        tree.lay_trunk(random, scene);
         tree
     }
 
+    fn draw_trunk(&mut self, random: &mut Random, scene: &Scene) {
+        for level in self.first..=PAGES {
+            self.trunk[level] = scene.draw_index(random, self.range, level);
+        }
+    }
+
+    /// Its trunk is the way to an address.
+    fn lead_to(&mut self, scene: &Scene, address: u64) {
+        let t = scene.regime.ranges[self.range].t;
+        for level in self.first..=PAGES {
+            self.trunk[level] = self.granule.index(t, level as u8, address);
+        }
+    }
+
+    /// Sets the root, and lays the trunk.
+    fn plant(&self, random: &mut Random, scene: &mut Scene) {
+        scene.regime.ranges[self.range].root = self.tables[self.first];
+        self.lay_trunk(random, scene);
+    }
+
     fn lay_trunk(&self, random: &mut Random, scene: &mut Scene) {
-        for level in self.first..3 {
+        for level in self.first..PAGES {
             self.point(random, scene, level, self.trunk[level], level + 1);
         }
     }
@@ -134,13 +165,13 @@ impl Tree {
 
     /// Makes an entry a table descriptor for the table of another level.
     fn point(&self, random: &mut Random, scene: &mut Scene, level: usize, index: u64, to: usize) {
-        let descriptor = draw_table(random, self.tables[to]);
+        let descriptor = draw_table(random, self.granule, self.tables[to]);
         scene.put(self.tables[level] + 8 * index, descriptor);
     }
 
     fn put_leaf(&self, random: &mut Random, scene: &mut Scene, level: usize, index: u64) {
         let output = scene.draw_output(random);
-        let leaf = draw_usable_leaf(random, level, output, self.leaves);
+        let leaf = draw_usable_leaf(random, self.granule, level, output, self.leaves);
         scene.put(self.tables[level] + 8 * index, leaf);
     }
 
@@ -149,7 +180,7 @@ impl Tree {
         let span = 64 - u32::from(scene.regime.ranges[self.range].t);
         let mut address = 0;
         for (level, index) in indices.iter().enumerate().skip(self.first) {
-            address |= index << lowest_index_bit(level as u8);
+            address |= index << self.granule.lowest_index_bit(level as u8);
         }
         if self.range == 1 {
             address |= u64::MAX << span;
@@ -164,37 +195,50 @@ impl Tree {
         indices
     }
 
-    /// Leaves in the last table, some of them in one place.
+    /// Entries of the last table that can be reached.
+    fn pages_in(&self, scene: &Scene) -> u64 {
+        let t = scene.regime.ranges[self.range].t;
+        1 << self.granule.index_bits(t, LAST_LEVEL)
+    }
+
+    /// The indices of a page some pages further on in the last table.
+    fn further(&self, scene: &Scene, mut indices: [u64; 4], step: u64) -> [u64; 4] {
+        indices[PAGES] = (indices[PAGES] + step) % self.pages_in(scene);
+        indices
+    }
+
+    /// Leaves in the last table, some of them in one place, or in one place
+    /// of another granule.
     fn lay_pages(&self, random: &mut Random, scene: &mut Scene, pages: &mut Vec<u64>) {
-        let far = random.below(ENTRIES);
-        for step in [0, 64, 128, 1, 2, 3, 32, 33, 34, far, far + 1] {
-            let index = (self.trunk[3] + step) % ENTRIES;
-            self.put_leaf(random, scene, 3, index);
-            pages.push(self.page(scene, &self.aside(3, index)));
+        let far = random.below(self.pages_in(scene));
+        for step in [0, 64, 128, 1, 2, 3, 4, 16, 32, 33, 34, far, far + 1] {
+            let indices = self.further(scene, self.trunk, step);
+            self.put_leaf(random, scene, PAGES, indices[PAGES]);
+            pages.push(self.page(scene, &indices));
         }
     }
 
     /// Entries beside the trunk that lead to the same table: other pages,
     /// same place, one descriptor.
     fn lay_aliases(&self, random: &mut Random, scene: &mut Scene, pages: &mut Vec<u64>) {
-        for level in self.first..3 {
+        for level in self.first..PAGES {
             let index = scene.draw_index(random, self.range, level);
             self.point(random, scene, level, index, level + 1);
-            let mut indices = self.aside(level, index);
+            let indices = self.aside(level, index);
             pages.push(self.page(scene, &indices));
-            indices[3] = (indices[3] + 64) % ENTRIES;
+            let indices = self.further(scene, indices, PLACES as u64);
             pages.push(self.page(scene, &indices));
         }
     }
 
     /// Blocks: many pages, one descriptor.
     fn lay_blocks(&self, random: &mut Random, scene: &mut Scene, pages: &mut Vec<u64>) {
-        for level in self.first.max(1)..3 {
+        let levels = (self.first..PAGES).filter(|level| self.granule.has_blocks(*level as u8));
+        for level in levels {
             let index = scene.draw_index(random, self.range, level);
             self.put_leaf(random, scene, level, index);
             for step in [0, 1, 2, 64] {
-                let mut indices = self.aside(level, index);
-                indices[3] = (indices[3] + step) % ENTRIES;
+                let indices = self.further(scene, self.aside(level, index), step);
                 pages.push(self.page(scene, &indices));
             }
         }
@@ -202,31 +246,38 @@ impl Tree {
 
     /// An entry that points to its own table, so that tables are leaves too.
     fn lay_loop(&self, random: &mut Random, scene: &mut Scene, pages: &mut Vec<u64>) {
-        let index = scene.draw_index(random, self.range, 2);
-        self.point(random, scene, 2, index, 2);
-        for last in [self.trunk[2], index] {
-            let mut indices = self.aside(2, index);
-            indices[3] = last;
+        let above = PAGES - 1;
+        if self.first > above {
+            return;
+        }
+        let index = scene.draw_index(random, self.range, above);
+        self.point(random, scene, above, index, above);
+        for last in [self.trunk[above], index] {
+            let mut indices = self.aside(above, index);
+            indices[PAGES] = last;
             pages.push(self.page(scene, &indices));
         }
     }
 
-    /// In a tree at the pool's end: the last entry of the last table, and one
-    /// beside the trunk that leads to where the pool ends.
+    /// In a tree of more than one level at the pool's end: the last entry of
+    /// the last table, and one beside the trunk that leads to where the pool
+    /// ends.
     fn lay_ends(&self, random: &mut Random, scene: &mut Scene) -> Ends {
         let output = scene.draw_output(random);
-        let leaf = draw_clean_leaf(random, 3, output);
-        scene.put(self.tables[3] + 8 * (ENTRIES - 1), leaf);
+        let leaf = draw_clean_leaf(random, self.granule, PAGES, output);
+        let last = self.pages_in(scene) - 1;
+        scene.put(self.tables[PAGES] + 8 * last, leaf);
 
-        let entries = scene.entries(self.range, 2);
-        let index = (self.trunk[2] + random.between(1, entries - 1)) % entries;
-        let behind = draw_table(random, scene.pool_end());
-        scene.put(self.tables[2] + 8 * index, behind);
+        let above = PAGES - 1;
+        let entries = scene.entries(self.range, above);
+        let index = (self.trunk[above] + random.between(1, entries - 1)) % entries;
+        let behind = draw_table(random, self.granule, scene.pool_end());
+        scene.put(self.tables[above] + 8 * index, behind);
 
-        let mut past = self.aside(2, index);
-        past[3] = 0;
+        let mut past = self.aside(above, index);
+        past[PAGES] = 0;
         Ends {
-            last: self.page(scene, &self.aside(3, ENTRIES - 1)),
+            last: self.page(scene, &self.aside(PAGES, last)),
             behind: self.page(scene, &past),
         }
     }
@@ -241,17 +292,39 @@ fn draw_placement(random: &mut Random) -> Placement {
     ])
 }
 
-/// A pool, a home regime and memory behind the pool, before any tree.
-fn draw_scene(random: &mut Random, placement: Placement, least: u64, leaves: Leaves) -> Scene {
-    let mut scene = Scene::new();
-    let granules = draw_granules(random, least);
-    let before = random.pick(&[0, 0, 1, 2]) * PAGE;
-    let behind = 2 * PAGE + random.pick(&[0, 1, 8, 4095]);
-    let code = match placement {
-        Placement::EitherWay => WHOLE,
-        _ => random.below(6) as u8,
+/// Bytes before and behind a pool. Behind it there is room for a longer pool,
+/// of the largest granules at times.
+fn draw_around(random: &mut Random, granule: Granule) -> (usize, usize) {
+    let (before, behind) = match granule {
+        Granule::Kib4 => (random.pick(&[0, 0, 1, 2]), 2),
+        Granule::Kib16 => (random.pick(&[0, 0, 1, 2]), 1),
+        Granule::Kib64 => (random.pick(&[0, 0, 0, 1]), random.pick(&[0, 0, 0, 1])),
     };
-    scene.draw_within(random, code, placement, granules, before, behind);
+    let more = random.pick(&[0, 1, 8, 4095]);
+    (before * granule.length(), behind * granule.length() + more)
+}
+
+/// A pool, a home regime and memory behind the pool, before any tree.
+fn draw_scene(
+    random: &mut Random,
+    granule: Granule,
+    placement: Placement,
+    least: u64,
+    leaves: Leaves,
+) -> Scene {
+    let mut scene = Scene::new();
+    let (_, few) = short_pool(granule);
+    let (before, behind) = draw_around(random, granule);
+    let sketch = Sketch {
+        granule,
+        code: match placement {
+            Placement::EitherWay => WHOLE,
+            _ => random.below(6) as u8,
+        },
+        placement,
+        granules: draw_granules(random, granule, least.min(few)),
+    };
+    scene.draw_within(random, sketch, before, behind);
     let seldom = if leaves == Leaves::Clean { 12 } else { 4 };
     (scene.regime.ha, scene.regime.hd) = draw_updates(random, seldom);
     for range in &mut scene.regime.ranges {
@@ -263,8 +336,9 @@ fn draw_scene(random: &mut Random, placement: Placement, least: u64, leaves: Lea
 /// The other regimes, and how much is lent as a rule.
 fn finish(random: &mut Random, scene: Scene, mut pages: Vec<u64>) -> World {
     let home = scene.regime;
+    let granule = home.granule.length();
     let pool_end = home.pool.start + home.pool.length;
-    let spare = (scene.memory.len() - pool_end).min(PAGE - 1);
+    let spare = (scene.memory.len() - pool_end).min(granule - 1);
     let some = random.below(spare as u64 + 1) as usize;
     let length = pool_end + random.pick(&[0, spare, some]);
     let mut regimes = vec![home];
@@ -278,7 +352,7 @@ fn finish(random: &mut Random, scene: Scene, mut pages: Vec<u64>) -> World {
         regimes.push(other_order(&home));
     }
     let mut far = home;
-    far.pool.length += PAGE;
+    far.pool.length += granule;
     let needs_more = refusals::of_set_regime(length, &far) == Some(1);
     let fits_all = refusals::of_set_regime(scene.memory.len(), &far).is_none();
 
@@ -295,31 +369,37 @@ fn finish(random: &mut Random, scene: Scene, mut pages: Vec<u64>) -> World {
         far: (needs_more && fits_all).then_some(far),
         pages,
         either_way: scene.either_way,
+        shared: Vec::new(),
         ends: None,
     }
 }
 
-/// A regime that differs from home in something, at times in its byte order.
+/// A regime that differs from home in something, at times in its byte order or
+/// its granule.
 pub fn vary(random: &mut Random, home: &Regime) -> Regime {
     let mut other = *home;
+    let page = home.granule.length();
     (other.ha, other.hd) = draw_updates(random, 2);
     other.wxn = random.coin();
     other.ee ^= random.once_in(6);
+    if random.once_in(6) {
+        other.granule = random.pick(&Granule::ALL);
+    }
     for range in &mut other.ranges {
         range.hpd ^= random.once_in(3);
     }
     match random.below(8) {
         0 => other.output_code = random.below(6) as u8,
         1 => other.ranges.swap(0, 1),
-        2 => other.ranges[random.below(2) as usize].t = random.between(16, 39) as u8,
+        2 => other.ranges[random.below(2) as usize].t = draw_t(random),
         3 => other.ranges[random.below(2) as usize].disabled ^= true,
-        4 => other.pool.address ^= GRANULE,
-        5 => other.pool.length -= PAGE,
+        4 => other.pool.address ^= home.granule.bytes(),
+        5 => other.pool.length -= page,
         6 => {
-            let shift = GRANULE * random.below(3);
-            other.pool.start += shift as usize;
-            other.pool.length = other.pool.length.saturating_sub(shift as usize);
-            other.pool.address += random.pick(&[0, shift]);
+            let shift = page * random.below(3) as usize;
+            other.pool.start += shift;
+            other.pool.length = other.pool.length.saturating_sub(shift);
+            other.pool.address += random.pick(&[0, shift as u64]);
         }
         _ => {
             for byte in &mut other.attributes {
@@ -336,19 +416,24 @@ pub fn vary(random: &mut Random, home: &Regime) -> Regime {
 
 impl World {
     /// Planned trees, one for both ranges or one for each.
-    pub fn planned(random: &mut Random, leaves: Leaves) -> World {
+    pub fn planned(random: &mut Random, granule: Granule, leaves: Leaves) -> World {
         let placement = draw_placement(random);
-        World::planned_at(random, placement, leaves)
+        World::planned_at(random, granule, placement, leaves)
     }
 
     /// The same where the order of a tree's bytes does not matter to its shape.
-    pub fn either_way(random: &mut Random) -> World {
-        World::planned_at(random, Placement::EitherWay, Leaves::Clean)
+    pub fn either_way(random: &mut Random, granule: Granule) -> World {
+        World::planned_at(random, granule, Placement::EitherWay, Leaves::Clean)
     }
 
-    fn planned_at(random: &mut Random, placement: Placement, leaves: Leaves) -> World {
+    fn planned_at(
+        random: &mut Random,
+        granule: Granule,
+        placement: Placement,
+        leaves: Leaves,
+    ) -> World {
         let least = random.pick(&[1, 2, 4, 4, 4]);
-        let mut scene = draw_scene(random, placement, least, leaves);
+        let mut scene = draw_scene(random, granule, placement, least, leaves);
         let mut pages = Vec::new();
         Tree::draw(random, &mut scene, 0, leaves).lay(random, &mut scene, &mut pages);
         if random.coin() {
@@ -363,33 +448,55 @@ impl World {
         finish(random, scene, pages)
     }
 
-    /// A page for each place, in one table or one block.
-    pub fn wide(random: &mut Random) -> World {
+    /// Trees for two granules over the same roots, and pages of both; the one
+    /// granule or the other is that of home.
+    pub fn two_granules(random: &mut Random) -> World {
+        use Granule::{Kib16, Kib4, Kib64};
+        let pair = random.pick(&[[Kib4, Kib16], [Kib4, Kib64], [Kib4, Kib64], [Kib16, Kib64]]);
         let placement = draw_placement(random);
-        let mut scene = draw_scene(random, placement, 4, Leaves::Mixed);
+        let mut scene = draw_scene(random, pair[1], placement, 1, Leaves::Clean);
+        let (mut pages, mut shared) = (Vec::new(), Vec::new());
+        for range in 0..2 {
+            scene.regime.ranges[range].disabled = false;
+            shared.push(lay_two(random, &mut scene, pair, range, &mut pages));
+        }
+        let [home, other] = random.pick(&[pair, [pair[1], pair[0]]]);
+        scene.regime.granule = home;
+        let other = with_granule(&scene.regime, other);
+        let mut world = finish(random, scene, pages);
+        world.regimes.push(other);
+        World { shared, ..world }
+    }
+
+    /// A page for each place, in one table or one block.
+    pub fn wide(random: &mut Random, granule: Granule) -> World {
+        let placement = draw_placement(random);
+        let mut scene = draw_scene(random, granule, placement, 4, Leaves::Mixed);
         let range = random.below(2) as usize;
         scene.regime.ranges[range].disabled = false;
         let leaves = random.pick(&[Leaves::Mixed, Leaves::Clean]);
         let tree = Tree::draw(random, &mut scene, range, leaves);
         let mut pages = Vec::new();
-        let block = random.coin();
+        let above = PAGES - 1;
+        let block = tree.first <= above && random.coin();
         if block {
-            tree.put_leaf(random, &mut scene, 2, tree.trunk[2]);
+            tree.put_leaf(random, &mut scene, above, tree.trunk[above]);
         }
+        let turns = tree.pages_in(&scene) / PLACES as u64;
         for place in 0..PLACES as u64 {
-            let index = place + PLACES as u64 * random.below(8);
+            let index = place + PLACES as u64 * random.below(turns);
             if !block {
-                tree.put_leaf(random, &mut scene, 3, index);
+                tree.put_leaf(random, &mut scene, PAGES, index);
             }
-            pages.push(tree.page(&scene, &tree.aside(3, index)));
+            pages.push(tree.page(&scene, &tree.aside(PAGES, index)));
         }
         finish(random, scene, pages)
     }
 
     /// Likely descriptors without a plan, and pages near each other.
-    pub fn unplanned(random: &mut Random) -> World {
+    pub fn unplanned(random: &mut Random, granule: Granule) -> World {
         let placement = draw_placement(random);
-        let mut scene = draw_scene(random, placement, 2, Leaves::Mixed);
+        let mut scene = draw_scene(random, granule, placement, 2, Leaves::Mixed);
         if random.once_in(8) {
             scene.fill_random(random);
         }
@@ -399,11 +506,11 @@ impl World {
         let mut pages = Vec::new();
         for _ in 0..8 {
             let range = random.below(2) as usize;
-            let span = 64 - u32::from(scene.regime.ranges[range].t);
-            let upper = if range == 1 { u64::MAX << span } else { 0 };
-            let page = random.bits() & ((1 << span) - 1) & !(GRANULE - 1);
-            let beside = page ^ (PLACES as u64 * GRANULE) << random.below(6);
-            pages.extend([upper | page, upper | beside]);
+            let page = granule.floor(scene.draw_address(random, range));
+            let apart = PLACES as u64 * granule.bytes();
+            let bits = 64 - u64::from(scene.regime.ranges[range].t);
+            let farther = random.below(6.min(bits - u64::from(apart.ilog2())));
+            pages.extend([page, page ^ apart << farther]);
         }
         finish(random, scene, pages)
     }
@@ -411,47 +518,62 @@ impl World {
     /// A tree at the end of a long pool, with memory for a longer one. In turn
     /// the pool is the longest, or up to a half as long, and so on down to a
     /// short one.
-    pub fn long_pool(random: &mut Random, turn: u64) -> World {
-        let halvings = turn % u64::from((POOL_GRANULES / SHORT).ilog2() + 1);
-        let most = POOL_GRANULES >> halvings;
+    pub fn long_pool(random: &mut Random, granule: Granule, turn: u64) -> World {
+        let (longest, page) = (longest_pool(granule), granule.length());
+        let (short, _) = short_pool(granule);
+        let halvings = turn % u64::from((longest / short).ilog2() + 1);
+        let most = longest >> halvings;
         let granules = match halvings {
             0 => most,
             _ => random.between(most / 2 + 1, most),
         };
-        let before = random.pick(&[0, 0, 1, 2]) * PAGE;
-        let behind = 2 * PAGE + random.pick(&[0, 1, 8, 4095]);
-        let mut world = World::at_end(random, granules, before, behind);
-        world.length = world.memory.len() - random.pick(&[1, PAGE / 2, PAGE]);
+        let before = random.pick(&[0, 0, 1, 2]) * page;
+        let behind = 2 * page + random.pick(&[0, 1, 8, 4095]);
+        let mut world = World::at_end(random, granule, granules, before, behind);
+        world.length = world.memory.len() - random.pick(&[1, page / 2, page]);
         world
     }
 
     /// A tree at the end of a pool in the longest memory, and one byte more.
     /// In turn the pool is the last of that memory or not, and the longest or
     /// a short one.
-    pub fn long_memory(random: &mut Random, turn: u64) -> World {
+    pub fn long_memory(random: &mut Random, granule: Granule, turn: u64) -> World {
+        let page = granule.length();
+        let (short, _) = short_pool(granule);
         let granules = match turn / 2 % 2 {
-            0 => POOL_GRANULES,
-            _ => random.between(4, SHORT),
+            0 => longest_pool(granule),
+            _ => random.between(4, short),
         };
-        let most = MEMORY_LIMIT / PAGE - granules as usize;
+        let most = MEMORY_LIMIT / page - granules as usize;
         let before = match turn % 2 {
             0 => most,
             _ => random.below(most as u64) as usize,
         };
-        let behind = (most - before) * PAGE + 1;
-        let mut world = World::at_end(random, granules, before * PAGE, behind);
+        let behind = (most - before) * page + 1;
+        let mut world = World::at_end(random, granule, granules, before * page, behind);
         world.length = MEMORY_LIMIT;
         world
     }
 
     /// A tree at the end of a pool, in which a write from EL1 makes marks, with
     /// so much memory before and behind the pool.
-    fn at_end(random: &mut Random, granules: u64, before: usize, behind: usize) -> World {
+    fn at_end(
+        random: &mut Random,
+        granule: Granule,
+        granules: u64,
+        before: usize,
+        behind: usize,
+    ) -> World {
         let mut scene = Scene::new();
-        let code = random.below(6) as u8;
-        let placement = Placement::Inside;
-        scene.draw_within(random, code, placement, granules, before, behind);
+        let sketch = Sketch {
+            granule,
+            code: random.below(6) as u8,
+            placement: Placement::Inside,
+            granules,
+        };
+        scene.draw_within(random, sketch, before, behind);
         (scene.regime.ha, scene.regime.hd) = (true, true);
+        scene.regime.ranges[0].t = draw_t_with_tables(random, granule);
         scene.regime.ranges[0].disabled = false;
         // So that no table takes the writing away.
         scene.regime.ranges[0].hpd = true;
@@ -468,7 +590,35 @@ impl World {
     }
 }
 
+/// Lays a tree for each of two granules, both over one root and with trunks to
+/// one address, which it gives.
+fn lay_two(
+    random: &mut Random,
+    scene: &mut Scene,
+    pair: [Granule; 2],
+    range: usize,
+    pages: &mut Vec<u64>,
+) -> u64 {
+    let root = scene.draw_granule(random);
+    let address = scene.draw_address(random, range);
+    let trees = pair.map(|granule| {
+        scene.regime.granule = granule;
+        let base = (root - scene.regime.pool.address) / granule.bytes();
+        let mut tree = Tree::based(scene, base, range, Leaves::Clean);
+        tree.lead_to(scene, address);
+        tree.plant(random, scene);
+        tree.lay(random, scene, pages);
+        tree
+    });
+    // Once more, as the second tree may have fallen on the first.
+    for tree in &trees {
+        tree.lay_trunk(random, scene);
+    }
+    address
+}
+
 /// A descriptor that leads to an address: its type and other bits stay.
-pub fn lead_to(descriptor: u64, address: u64) -> u64 {
-    (descriptor & !ADDRESS_FIELD) | (address & ADDRESS_FIELD)
+pub fn lead_to(granule: Granule, descriptor: u64, address: u64) -> u64 {
+    let field = granule.table_field();
+    (descriptor & !field) | (address & field)
 }

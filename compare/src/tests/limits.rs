@@ -188,7 +188,8 @@ fn limits_that_are_passed() {
         (MEMORY, pool(usize::MAX, LONGEST + PAGE), None),
         (MEMORY, pool(8, PAGE), None),
     ] {
-        assert_eq!(passed(memory_length, &pool), limit, "{pool:?}");
+        let regime = Regime { pool, ..start().1 };
+        assert_eq!(passed(memory_length, &regime), limit, "{pool:?}");
     }
 }
 

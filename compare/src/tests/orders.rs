@@ -6,7 +6,7 @@ use crate::boundary::{plain_answer, CAnswer};
 use crate::orders::{Ordered, Turn};
 use crate::promises::{self, Expect};
 use crate::reference::{
-    descriptor_bytes, read_descriptor, walk, Access, Answer, Kind, Pool, Regime, GRANULE,
+    descriptor_bytes, read_descriptor, walk, Access, Answer, Kind, Pool, Regime,
 };
 use crate::refusals;
 use crate::reversed::{self, other_order, reverse};
@@ -367,7 +367,7 @@ fn another_answer_in_the_other_order_is_told() {
 #[test]
 fn a_pool_outside_the_memory_is_left_out() {
     let (mut memory, mut regime) = start_big();
-    regime.pool.length += GRANULE as usize;
+    regime.pool.length += regime.granule.length();
     let before = memory.clone();
     let refused = plain_answer(&Answer::Refused(1));
     let again = |_: &mut [u8], _: &Regime| -> CAnswer { panic!("a second walk") };

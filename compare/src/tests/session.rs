@@ -2,6 +2,7 @@
 //! cases (RULES 12). Page 0x403 has place 3, its leaf is at 0x40003018.
 
 use super::{access, read_descriptor, start, write_descriptor, LEAF, LEAF_OFFSET};
+use crate::geometry::Granule;
 use crate::reference::{Access, Answer, Kind, Regime, Success, AP1, AP2, POOL_LIMIT};
 use crate::refusals::SET_REGIME;
 use crate::session::{page_of, place_of, Held, Session};
@@ -76,8 +77,8 @@ fn fault(answer: Answer) -> (u16, u8, u8) {
 
 #[test]
 fn pages_and_places() {
-    assert_eq!(page_of(0x40_3ABC), 0x403);
-    assert_eq!(page_of(u64::MAX), (1 << 52) - 1);
+    assert_eq!(page_of(Granule::Kib4, 0x40_3ABC), 0x403);
+    assert_eq!(page_of(Granule::Kib4, u64::MAX), (1 << 52) - 1);
     assert_eq!(place_of(0x403), 3);
     assert_eq!(place_of(0x443), 3);
     assert_eq!(place_of((1 << 52) - 1), 63);

@@ -6,8 +6,11 @@ use crate::boundary::{
     CAccess, CAnswer, CEntry, CRegime, CSession, Library, LibrarySession, SessionFunctions,
     Spelling, Subject, SUM_BITS,
 };
+use crate::geometry::Granule;
+use crate::random::Random;
 use crate::reference::{Kind, Regime, AP_TABLE_1, PXN_TABLE};
 use crate::session::{Call, PLACES};
+use std::collections::BTreeSet;
 use std::mem::offset_of;
 
 const NOISY: Spelling = Spelling {
@@ -43,7 +46,7 @@ unsafe extern "C" fn empty(session: *mut CSession) {
         set: 0,
         spare: [0; 7],
     };
-    (*session).regime.spare = [0; 5];
+    (*session).regime.spare = [0; 4];
 }
 
 unsafe extern "C" fn set(
@@ -180,7 +183,7 @@ unsafe extern "C" fn clear_idle_bits_in_store(
 
 unsafe extern "C" fn drop_all_and_more(session: *mut CSession) {
     drop_all(session);
-    (*session).regime.spare = [0; 5];
+    (*session).regime.spare = [0; 4];
 }
 
 unsafe extern "C" fn answer_but_spare(
@@ -281,8 +284,9 @@ fn the_offsets_are_those_of_the_interface() {
     assert_eq!(offset_of!(CRegime, hpd0), 56);
     assert_eq!(offset_of!(CRegime, hpd1), 57);
     assert_eq!(offset_of!(CRegime, ee), 58);
-    assert_eq!(REGIME_SPARE, 59);
-    assert_eq!(size_of::<CRegime>() - REGIME_SPARE, 5);
+    assert_eq!(offset_of!(CRegime, granule), 59);
+    assert_eq!(REGIME_SPARE, 60);
+    assert_eq!(size_of::<CRegime>() - REGIME_SPARE, 4);
     assert_eq!((TABLES, ENTRY_SPARE), (18, 19));
     assert_eq!(entry(1), 64 + 24);
 }
@@ -316,7 +320,7 @@ fn spare_bytes_say_nothing() {
 fn any_byte_but_0_says_ee() {
     let (_, regime) = start();
     let mut words = Spelling::PLAIN.regime(&regime);
-    words.spare = [0xFF; 5];
+    words.spare = [0xFF; 4];
     for byte in 0..=0xFF {
         words.ee = byte;
         let ee = byte != 0;
@@ -336,6 +340,47 @@ fn any_byte_but_0_says_ee() {
         assert_eq!(odd.regime(&with_ee).ee, truth);
         assert_eq!(odd.regime(&with_ee).read(), with_ee);
     }
+}
+
+/// 1 says 64 KiB, 2 says 16 KiB, any other byte 4 KiB; and no spare byte has
+/// a say.
+#[test]
+fn every_byte_says_a_granule() {
+    let (_, regime) = start();
+    let mut words = NOISY.regime(&regime);
+    words.spare = [2; 4];
+    for byte in 0..=0xFF {
+        words.granule = byte;
+        let granule = match byte {
+            1 => Granule::Kib64,
+            2 => Granule::Kib16,
+            _ => Granule::Kib4,
+        };
+        assert_eq!(words.read(), Regime { granule, ..regime }, "{byte}");
+        let odd = Spelling {
+            kib_4: byte,
+            ..NOISY
+        };
+        if granule == Granule::Kib4 {
+            assert_eq!(odd.regime(&regime).granule, byte);
+            assert_eq!(odd.regime(&regime).read(), regime);
+        }
+        let others = [(Granule::Kib16, 2), (Granule::Kib64, 1)];
+        for (granule, number) in others {
+            let larger = Regime { granule, ..regime };
+            assert_eq!(odd.regime(&larger).granule, number);
+        }
+    }
+}
+
+/// No byte above 2 is left out, and none of those below says 4 KiB.
+#[test]
+fn bytes_that_are_drawn_for_4_kib() {
+    let mut random = Random::new(1);
+    let drawn = (0..20_000).map(|_| Spelling::draw(&mut random).kib_4);
+    let drawn: BTreeSet<u8> = drawn.collect();
+    let wanted: BTreeSet<u8> = (0..=0xFF).filter(|byte| ![1, 2].contains(byte)).collect();
+    assert_eq!(drawn, wanted);
 }
 
 #[test]
@@ -372,4 +417,23 @@ fn another_meaning_is_told() {
     session.put(&bytes);
     let told = session.wrong_session(&wanted).unwrap();
     assert!(told.contains("regime"), "{told}");
+}
+
+#[test]
+fn another_granule_is_told() {
+    // SAFETY: as above.
+    let mut session = unsafe { LibrarySession::fresh(HONEST, 7) }.unwrap();
+    let mut bytes = CSession {
+        regime: NOISY.regime(&start().1),
+        entries: [EMPTY; PLACES],
+        set: 1,
+        spare: [0; 7],
+    };
+    let wanted = bytes.read();
+    for (granule, differs) in [(3, false), (1, true), (2, true)] {
+        bytes.regime.granule = granule;
+        session.put(&bytes);
+        let told = session.wrong_session(&wanted);
+        assert_eq!(told.is_some(), differs, "{granule}: {told:?}");
+    }
 }

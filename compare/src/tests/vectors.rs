@@ -99,11 +99,12 @@ fn good_cases_are_held() {
 }
 
 /// The files of the folder `vectors` by name, and the cases that each has.
-const SHIPPED: [(&str, usize); 4] = [
+const SHIPPED: [(&str, usize); 5] = [
     ("after-q02.txt", 134),
     ("after-q06.txt", 143),
     ("after-q07.txt", 141),
     ("after-q09.txt", 128),
+    ("after-q10.txt", 220),
 ];
 
 #[test]
@@ -166,6 +167,25 @@ fn ee_may_be_left_out() {
     refuses("start=0", "ee=1 start=0 ee=1", twice);
     let odd = "setting `ee`: `2` is no FLAG: 0 or 1";
     refuses("start=0", "ee=2 start=0", odd);
+}
+
+/// The granule by its setting or left out; with 16 KiB the pool's length is
+/// one granule, and its first table is another.
+#[test]
+fn the_granule_may_be_left_out() {
+    let report = |text: &str| open(text).unwrap().hold(&Second).to_string();
+    for setting in ["wxn=0", "wxn=0 granule=4"] {
+        assert_eq!(report(&GOOD.replace("wxn=0", setting)), SAME, "{setting}");
+    }
+    for setting in ["wxn=0 granule=16", "wxn=0 granule=64"] {
+        assert_ne!(report(&GOOD.replace("wxn=0", setting)), SAME, "{setting}");
+    }
+    let twice = "setting `granule` a second time";
+    refuses("start=0", "granule=4 start=0 granule=4", twice);
+    for word in ["0", "1", "8", "32", "65536", "4k"] {
+        let odd = format!("setting `granule`: `{word}` is no granule: 4, 16 or 64");
+        refuses("start=0", &format!("granule={word} start=0"), &odd);
+    }
 }
 
 // ------------------------------------------------------------------- errors

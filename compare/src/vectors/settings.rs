@@ -3,6 +3,7 @@
 
 use super::text::{Form, Line, Problem};
 use crate::boundary::CAnswer;
+use crate::geometry::Granule;
 use crate::reference::{Pool, Range, Regime};
 
 /// A name, and how the word behind it gets into its field.
@@ -25,12 +26,13 @@ pub const REGIME: &[Setting<Regime>] = &[
     ("hd", |r, w| put(&mut r.hd, w)),
     ("wxn", |r, w| put(&mut r.wxn, w)),
     ("ee", |r, w| put(&mut r.ee, w)),
+    ("granule", |r, w| put(&mut r.granule, w)),
     ("attributes", |r, w| put(&mut r.attributes, w)),
 ];
 
 /// Those that a line may leave out, as older files do: then they are as in
 /// `NO_REGIME`.
-const LATER: [&str; 3] = ["hpd0", "hpd1", "ee"];
+const LATER: [&str; 4] = ["hpd0", "hpd1", "ee", "granule"];
 
 pub const OK: &[Setting<CAnswer>] = &[
     ("output", |a, w| put(&mut a.output, w)),
@@ -69,8 +71,21 @@ pub const NO_REGIME: Regime = Regime {
     hd: false,
     wxn: false,
     ee: false,
+    granule: Granule::Kib4,
     attributes: [0; 8],
 };
+
+/// A granule is told by its size in KiB.
+impl Form for Granule {
+    fn read(word: &str) -> Result<Self, String> {
+        match u64::read(word) {
+            Ok(4) => Ok(Granule::Kib4),
+            Ok(16) => Ok(Granule::Kib16),
+            Ok(64) => Ok(Granule::Kib64),
+            _ => Err(format!("`{word}` is no granule: 4, 16 or 64")),
+        }
+    }
+}
 
 fn put<F: Form>(field: &mut F, word: &str) -> Result<(), String> {
     *field = F::read(word)?;
