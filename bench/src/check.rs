@@ -1,6 +1,7 @@
 //! Both sides on random descriptors, tables, regimes and accesses, on any two
 //! mistakes of a call, at the limits, on every size field of each granule, and
-//! on every leaf under all that tables can take away: each whole answer and each byte of memory is to be the same.
+//! on every leaf under all that tables can take away: each whole answer and
+//! each byte of memory is to be the same.
 
 use crate::boundary::{self, Access, Regime};
 use crate::boundary::{FAULT, FETCH, KIB16, KIB4, KIB64, PROBE_READ, PROBE_WRITE, READ, REFUSED};
