@@ -10,7 +10,7 @@ use Rattle.refusals.proofs.Below.{allBelow, all-below, alike, alike-sam
 
 -- bits 1, 2, 4, 8 and 16
 abbrev pub sizeBits : ℕ
-sizeBits = 65814
+sizeBits = 0x10116
 
 pub size-above : (size : ℕ) → 16 < size → sizeBad size ≡ true
 unfolding sizeBad

@@ -11,10 +11,10 @@ use vmsa::Regime;
 use vmsa::VirtAddr;
 
 // The lowest bit of each byte of a u64.
-const LOWEST_BITS: u64 = 72340172838076673;
+const LOWEST_BITS: u64 = 0x0101010101010101;
 
 // Bits 1, 2, 4, 8 and 16: the sizes of an access.
-const SIZES: u64 = 65814;
+const SIZES: u64 = 0x10116;
 
 // Whether start + length is above n.
 fn passes(n: usize, start: usize, length: usize) -> bool
