@@ -18,7 +18,7 @@ pub(crate) use play::Arena;
 use play::Play;
 pub use tally::Tally;
 
-const SCRIPTS: u64 = 7_200;
+const SCRIPTS: u64 = 8_100;
 /// Calls of a script; over the longest memories there are fewer.
 const CALLS: usize = 40;
 

@@ -218,8 +218,11 @@ impl LibrarySession {
     fn wanted(&self, call: &Call, reply: &Reply) -> CSession {
         let mut wanted = self.found;
         match (call, reply) {
-            (Call::SetRegime(_), Reply::Changed(0)) => {
+            // A flag is 0 or 1, and the granule one of its three numbers
+            // (RULES 15.1 and 15.9), however they were spelled.
+            (Call::SetRegime(regime), Reply::Changed(0)) => {
                 wanted = self.session;
+                wanted.regime = Spelling::PLAIN.regime(regime);
                 wanted.fill_idle(|| 0);
             }
             // The place is filled by a walk that may be remembered.

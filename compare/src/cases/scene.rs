@@ -51,7 +51,7 @@ pub struct Sketch {
 
 /// Descriptors that are drawn for a memory; a longer one repeats them. It is a
 /// prime number, so that one index finds other descriptors in other tables.
-const DRAWN: usize = 1021;
+const DRAWN: usize = 509;
 
 /// Goes on with what the first `DRAWN` descriptors of a memory are.
 fn repeat(memory: &mut [u8]) {

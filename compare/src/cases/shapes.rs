@@ -12,7 +12,7 @@ use crate::random::Random;
 
 const FAMILY: &str = "shapes";
 /// How often all shapes of a granule come.
-const ROUNDS: [(Granule, u32); 3] = [(Granule::Kib4, 6), (Granule::Kib16, 2), (Granule::Kib64, 1)];
+const ROUNDS: [(Granule, u32); 3] = [(Granule::Kib4, 7), (Granule::Kib16, 2), (Granule::Kib64, 2)];
 
 /// The odd thing. A number is the level whose table or descriptor is meant.
 #[derive(Clone, Copy, Debug)]

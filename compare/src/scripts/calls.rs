@@ -151,8 +151,8 @@ fn long_memory(random: &mut Random, turn: u64) -> World {
 fn long_pool(random: &mut Random, turn: u64) -> World {
     match turn {
         0..=11 => World::long_pool(random, Granule::Kib4, turn),
-        12 | 13 => World::long_pool(random, Granule::Kib16, turn - 12),
-        _ => World::long_pool(random, Granule::Kib64, turn - 14),
+        12..=15 => World::long_pool(random, Granule::Kib16, turn - 12),
+        _ => World::long_pool(random, Granule::Kib64, turn - 16),
     }
 }
 

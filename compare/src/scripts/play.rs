@@ -228,7 +228,9 @@ impl<'a, S: Subject> Play<'a, S> {
                         "rule 3: second half, {class:?}: promised was {answer:x?}"
                     ));
                 }
-                if scratch.arena.memory() != scratch.promised {
+                // Without a mark both are as they were, and so is the first.
+                let marks = makes_marks(&wanted) || makes_marks(&Reply::Answered(answer));
+                if marks && scratch.memory != scratch.promised {
                     why.push(format!("rule 3: second half, {class:?}: the bytes"));
                 }
                 self.tally.note_probe(class, bytes, &answer);
@@ -244,10 +246,8 @@ impl<'a, S: Subject> Play<'a, S> {
             return Err(why);
         }
         // Bytes change where a mark was made, and nowhere else.
-        if let Reply::Answered(answer) = wanted {
-            if answer.accessed != 0 || answer.dirtied != 0 {
-                scratch.restore();
-            }
+        if makes_marks(&wanted) {
+            scratch.restore();
         }
         Ok(())
     }
@@ -306,6 +306,11 @@ impl Scratch {
         self.memory.copy_from_slice(&self.base);
         self.promised.copy_from_slice(&self.base);
     }
+}
+
+/// Whether a reply tells of a mark.
+fn makes_marks(reply: &Reply) -> bool {
+    matches!(reply, Reply::Answered(answer) if answer.accessed != 0 || answer.dirtied != 0)
 }
 
 /// A call to the reference, its reply in the library's form.

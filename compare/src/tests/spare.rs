@@ -113,6 +113,18 @@ unsafe extern "C" fn set_spare(
     0
 }
 
+unsafe extern "C" fn set_as_spelled(
+    session: *mut CSession,
+    _: *const u8,
+    _: usize,
+    regime: *const CRegime,
+) -> u8 {
+    empty(session);
+    (*session).regime = *regime;
+    (*session).regime.spare = [0; 4];
+    0
+}
+
 unsafe extern "C" fn clear_refused(
     session: *mut CSession,
     _: *const u8,
@@ -256,6 +268,27 @@ fn slips_of_a_set_regime_are_told() {
     };
     tells(with(set_spare), call, REGIME_SPARE);
     tells(with(clear_refused), call, offset_of!(CSession, spare));
+}
+
+#[test]
+fn numbers_kept_as_they_were_spelled_are_told() {
+    let functions = SessionFunctions {
+        set_regime: set_as_spelled,
+        ..HONEST
+    };
+    let call = Call::SetRegime(start().1);
+    let told = |spelling| {
+        // SAFETY: as above.
+        let mut session = unsafe { LibrarySession::fresh(functions, 7) }.unwrap();
+        let reply = session.call(&mut [0; 4096], &call, spelling);
+        session.wrong_bytes(&call, &reply)
+    };
+    assert_eq!(told(NOISY), None);
+    for kib_4 in 3..=0xFF {
+        assert!(told(Spelling { kib_4, ..NOISY }).is_some());
+        let truth = kib_4;
+        assert!(told(Spelling { truth, ..NOISY }).is_some());
+    }
 }
 
 #[test]
