@@ -1,7 +1,7 @@
 //! The refusals of a plain walk: each row (RULES 5.1) at its limit, one past
 //! it, and in pairs, where the row that is looked at first must be given.
 
-use super::scene::{draw_granule_size, draw_leaf, Placement, Scene, Sketch, HD_ALONE, UPDATES};
+use super::scene::{draw_granule_size, draw_leaf, Scene, Sketch, HD_ALONE, UPDATES};
 use super::Maker;
 use crate::geometry::{Granule, PHYSICAL_LIMIT};
 use crate::promises::Expect;
@@ -164,13 +164,7 @@ fn ask(maker: &mut Maker, changes: &[&Change], expect: Expect) {
 fn ask_under(maker: &mut Maker, granule: Granule, changes: &[&Change], expect: Expect) {
     let random = &mut maker.random;
     let scene = &mut maker.scene;
-    let most = if granule == Granule::Kib64 { 2 } else { 3 };
-    let sketch = Sketch {
-        granule,
-        code: random.below(6) as u8,
-        placement: Placement::Inside,
-        granules: random.between(1, most),
-    };
+    let sketch = Sketch::inside(random, granule);
     scene.draw(random, sketch);
     let access = lay_and_draw(random, scene);
     let mut question = Question { scene, access };

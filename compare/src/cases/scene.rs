@@ -49,6 +49,19 @@ pub struct Sketch {
     pub granules: u64,
 }
 
+impl Sketch {
+    /// A pool of a few granules inside the memory, with any output size.
+    pub fn inside(random: &mut Random, granule: Granule) -> Sketch {
+        let most = if granule == Granule::Kib64 { 2 } else { 3 };
+        Sketch {
+            granule,
+            code: random.below(6) as u8,
+            placement: Placement::Inside,
+            granules: random.between(1, most),
+        }
+    }
+}
+
 /// Descriptors that are drawn for a memory; a longer one repeats them. It is a
 /// prime number, so that one index finds other descriptors in other tables.
 const DRAWN: usize = 509;

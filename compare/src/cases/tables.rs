@@ -5,7 +5,7 @@
 
 use super::scene::{
     draw_access_of, draw_device, draw_granule_size, draw_normal, draw_table, leaf_type, Path,
-    Placement, Sketch, UPDATES,
+    Sketch, UPDATES,
 };
 use super::Maker;
 use crate::geometry::Granule;
@@ -82,13 +82,7 @@ fn draw_path(maker: &mut Maker, choice: &Choice) -> Path {
     let random = &mut maker.random;
     let scene = &mut maker.scene;
     let granule = draw_granule_size(random);
-    let most = if granule == Granule::Kib64 { 2 } else { 3 };
-    let sketch = Sketch {
-        granule,
-        code: random.below(6) as u8,
-        placement: Placement::Inside,
-        granules: random.between(1, most),
-    };
+    let sketch = Sketch::inside(random, granule);
     scene.draw_within(random, sketch, 0, 0);
     let (leaf_level, t) = draw_way(random, granule);
     let number = random.below(2) as usize;

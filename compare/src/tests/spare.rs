@@ -39,6 +39,16 @@ fn entry(place: usize) -> usize {
 
 // Functions that keep to the spare bytes, and to little else.
 
+/// A session with this regime and empty entries.
+fn set_session(regime: CRegime) -> CSession {
+    CSession {
+        regime,
+        entries: [EMPTY; PLACES],
+        set: 1,
+        spare: [0; 7],
+    }
+}
+
 unsafe extern "C" fn empty(session: *mut CSession) {
     *session = CSession {
         regime: Spelling::PLAIN.regime(&start().1),
@@ -358,12 +368,7 @@ fn any_byte_but_0_says_ee() {
         words.ee = byte;
         let ee = byte != 0;
         assert_eq!(words.read(), Regime { ee, ..regime }, "{byte}");
-        let session = CSession {
-            regime: words,
-            entries: [EMPTY; PLACES],
-            set: 1,
-            spare: [0; 7],
-        };
+        let session = set_session(words);
         assert_eq!(session.read().regime, Some(Regime { ee, ..regime }));
     }
     for truth in 1..=0xFF {
@@ -420,12 +425,7 @@ fn bytes_that_are_drawn_for_4_kib() {
 fn another_meaning_is_told() {
     // SAFETY: as above.
     let mut session = unsafe { LibrarySession::fresh(HONEST, 7) }.unwrap();
-    let mut bytes = CSession {
-        regime: NOISY.regime(&start().1),
-        entries: [EMPTY; PLACES],
-        set: 1,
-        spare: [0; 7],
-    };
+    let mut bytes = set_session(NOISY.regime(&start().1));
     bytes.entries[3].held = 1;
     let wanted = bytes.read();
     for tables in 0..=0xFF {
@@ -456,12 +456,7 @@ fn another_meaning_is_told() {
 fn another_granule_is_told() {
     // SAFETY: as above.
     let mut session = unsafe { LibrarySession::fresh(HONEST, 7) }.unwrap();
-    let mut bytes = CSession {
-        regime: NOISY.regime(&start().1),
-        entries: [EMPTY; PLACES],
-        set: 1,
-        spare: [0; 7],
-    };
+    let mut bytes = set_session(NOISY.regime(&start().1));
     let wanted = bytes.read();
     for (granule, differs) in [(3, false), (1, true), (2, true)] {
         bytes.regime.granule = granule;
