@@ -56,6 +56,8 @@ const KIB_64: Shape = Shape {
 /// Address bits below a leaf of 64 KiB that stands at level 0, which is not
 /// there: as with an index of 13 bits above that of level 1. No walk finds such
 /// a leaf, but a session of any bytes may hold it (RULES 10.5).
+/// This reading was chosen after the library was seen to differ from a first
+/// one, so on this point the second program is not independent of it.
 const ABOVE_LEVEL_1: u32 = 55;
 
 /// Bits from a lowest one up to the highest of a physical address.
