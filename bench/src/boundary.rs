@@ -8,6 +8,8 @@ mod ffi;
 
 pub use ffi::{Access, Answer, Regime};
 
+use crate::steps::{Steps, Update};
+
 pub const READ: u8 = 0;
 pub const WRITE: u8 = 1;
 pub const FETCH: u8 = 3;
@@ -71,5 +73,41 @@ impl Session {
     #[inline(always)]
     pub fn invalidate_all(&mut self) {
         ffi::session_invalidate_all(&mut self.0);
+    }
+}
+
+/// The library's walk a descriptor at a time.
+#[derive(Clone, Copy)]
+pub struct Stepwise(ffi::Stepwise);
+
+impl Steps for Stepwise {
+    #[inline(always)]
+    fn start(regime: &Regime, access: &Access) -> Stepwise {
+        Stepwise(ffi::stepwise_start(regime, access))
+    }
+
+    #[inline(always)]
+    fn value(&mut self, value: u64) -> u8 {
+        ffi::stepwise_value(&mut self.0, value)
+    }
+
+    #[inline(always)]
+    fn unreachable(&mut self) -> u8 {
+        ffi::stepwise_unreachable(&mut self.0)
+    }
+
+    #[inline(always)]
+    fn wanted(&self) -> Option<u64> {
+        (self.0.ended == 0).then_some(self.0.address)
+    }
+
+    #[inline(always)]
+    fn end(&self) -> (Answer, Option<Update>) {
+        let update = Update {
+            address: self.0.address,
+            expected: self.0.expected,
+            value: self.0.value,
+        };
+        (self.0.answer, (self.0.update != 0).then_some(update))
     }
 }

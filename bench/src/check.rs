@@ -1,17 +1,21 @@
 //! Both sides on random descriptors, tables, regimes and accesses, on any two
 //! mistakes of a call, at the limits, on every size field of each granule, and
 //! on every leaf under all that tables can take away: each whole answer and
-//! each byte of memory is to be the same.
+//! each byte of memory is to be the same. What is walked is walked a descriptor
+//! at a time too: each address that is named and each end is to be the same.
 
 use crate::boundary::{self, Access, Regime};
 use crate::boundary::{FAULT, FETCH, KIB16, KIB4, KIB64, PROBE_READ, PROBE_WRITE, READ, REFUSED};
 use crate::boundary::{SUCCESS, WRITE};
 use crate::kernels::{self, LEAF_TABLES};
 use crate::plain::{self, MEMORY_LIMIT, POOL_LIMIT};
+use crate::steps::Steps;
 
 const SCENES: u32 = 2_000;
 const CALLS: u32 = 100;
 const DESCRIPTORS: u32 = 50_000;
+/// Walks a descriptor at a time, by any descriptors.
+const OFFERED: u32 = 50_000;
 /// For each size field of a granule.
 const GRANULE_CALLS: u32 = 200;
 
@@ -163,6 +167,18 @@ impl Random {
         }
     }
 
+    /// What is offered to a walk: nothing, anything, a block, or most often a
+    /// table or a page.
+    fn offer(&mut self) -> Option<u64> {
+        let value = self.next();
+        match self.below(16) {
+            0 => None,
+            1 => Some(value),
+            2 | 3 => Some(value & !2 | 1),
+            _ => Some(value | 3),
+        }
+    }
+
     /// The offset of a load or a store in `length` bytes, also where it does
     /// not fit.
     fn offset(&mut self, length: usize) -> usize {
@@ -187,7 +203,10 @@ pub fn same_answers() -> u32 {
     same_limits();
     same_under_tables(0);
     same_under_tables(1);
-    same_descriptors(&mut random) + same_walks(&mut random) + same_granules(&mut random)
+    same_descriptors(&mut random)
+        + same_walks(&mut random)
+        + same_granules(&mut random)
+        + same_offers(&mut random)
 }
 
 /// Spoils a call, whatever else was changed.
@@ -229,6 +248,7 @@ fn same_refusals() {
             let answer = boundary::walk(&mut ours, &regime, &access);
             assert_eq!((answer.tag, answer.refusal), (REFUSED, number));
             assert_eq!(answer, plain::walk(&mut plain, &regime, &access));
+            same_steps(&regime, &access, |at| in_pool(&ours, &regime, at));
             let reply = boundary::Session::empty().set_regime(&ours, &regime);
             let plain_reply = plain::Session::empty().set_regime(&plain, &regime);
             assert_eq!(reply, plain_reply, "{number}");
@@ -306,9 +326,13 @@ impl Sides {
         self.plain.invalidate_all();
     }
 
-    /// A walk, or an access in the session where no regime is given.
+    /// A walk, also a descriptor at a time, or an access in the session where
+    /// no regime is given.
     fn ask(&mut self, regime: Option<&Regime>, access: &Access) {
         let [ours, plain] = &mut self.memory;
+        if let Some(regime) = regime {
+            same_steps(regime, access, |at| in_pool(ours, regime, at));
+        }
         let answers = match regime {
             Some(regime) => [
                 boundary::walk(ours, regime, access),
@@ -400,12 +424,51 @@ fn same_granules(random: &mut Random) -> u32 {
                 let access = random.mapped();
                 sides.ask(Some(&regime), &access);
                 sides.ask(None, &access);
-                calls += 2;
+                calls += 3;
             }
             assert!(sides.memory[0] == sides.memory[1], "other bytes: {granule}");
         }
     }
     calls
+}
+
+/// Walks a descriptor at a time by what `read` gives, and no descriptor where it
+/// gives none: the same addresses are named and the same end is reached, which
+/// stays as it is.
+fn same_steps(regime: &Regime, access: &Access, mut read: impl FnMut(u64) -> Option<u64>) {
+    let mut ours = boundary::Stepwise::start(regime, access);
+    let mut plain = plain::Stepwise::start(regime, access);
+    while let Some(address) = ours.wanted() {
+        assert_eq!(Some(address), plain.wanted(), "{access:?}");
+        let replies = match read(address) {
+            Some(value) => [ours.value(value), plain.value(value)],
+            None => [ours.unreachable(), plain.unreachable()],
+        };
+        assert_eq!(replies, [0, 0], "{access:?}");
+    }
+    let end = ours.end();
+    assert_eq!(plain.wanted(), None, "{access:?}");
+    assert_eq!(end, plain.end(), "{access:?}");
+    assert_eq!([ours.value(3), ours.unreachable()], [12, 12]);
+    assert_eq!([plain.value(3), plain.unreachable()], [12, 12]);
+    assert_eq!([ours.end(), plain.end()], [end, end]);
+}
+
+/// The descriptor at an address in the pool, or none.
+fn in_pool(memory: &[u8], regime: &Regime, address: u64) -> Option<u64> {
+    let pool = memory.get(regime.start..)?.get(..regime.length)?;
+    let offset = address.checked_sub(regime.address)? as usize;
+    pool.get(offset..)?.get(..8)?;
+    Some(plain::load(pool, offset, regime.ee))
+}
+
+/// Walks a descriptor at a time by any descriptors.
+fn same_offers(random: &mut Random) -> u32 {
+    for _ in 0..OFFERED {
+        let (regime, access) = (random.regime(), random.access());
+        same_steps(&regime, &access, |_| random.offer());
+    }
+    OFFERED
 }
 
 /// Loads and stores, half of them in fewer than 16 bytes.
@@ -478,6 +541,7 @@ fn same_walks(random: &mut Random) -> u32 {
                 _ => {}
             }
             let access = random.access();
+            same_steps(&regime, &access, |at| in_pool(&ours, &regime, at));
             if random.below(4) == 0 {
                 let answer = boundary::walk(&mut ours, &regime, &access);
                 assert_eq!(
@@ -496,5 +560,5 @@ fn same_walks(random: &mut Random) -> u32 {
             assert!(ours == plain, "other bytes after {access:?}");
         }
     }
-    SCENES * CALLS
+    2 * SCENES * CALLS
 }

@@ -5,6 +5,7 @@ use std::hint::black_box;
 
 use crate::boundary::{self, Access, Answer, Regime, KIB16, KIB4, KIB64, READ, WRITE};
 use crate::plain;
+use crate::steps::Steps;
 
 /// The addresses of every kernel repeat after so many calls.
 const PERIOD: usize = 512;
@@ -34,6 +35,8 @@ pub enum Kernel {
     SetRegime,
     SessionStore,
     InvalidateAll,
+    Step4,
+    Step4Offer,
 }
 
 #[derive(Clone, Copy)]
@@ -45,7 +48,7 @@ pub enum Side {
 }
 
 impl Kernel {
-    pub const ALL: [Kernel; 15] = [
+    pub const ALL: [Kernel; 17] = [
         Kernel::Load,
         Kernel::Store,
         Kernel::Walk4,
@@ -61,6 +64,8 @@ impl Kernel {
         Kernel::SetRegime,
         Kernel::SessionStore,
         Kernel::InvalidateAll,
+        Kernel::Step4,
+        Kernel::Step4Offer,
     ];
 
     pub fn name(self) -> &'static str {
@@ -80,6 +85,8 @@ impl Kernel {
             Kernel::SetRegime => "set-regime",
             Kernel::SessionStore => "session-store",
             Kernel::InvalidateAll => "invalidate-all",
+            Kernel::Step4 => "step4",
+            Kernel::Step4Offer => "step4-offer",
         }
     }
 
@@ -91,7 +98,7 @@ impl Kernel {
     fn address(self, i: u64) -> u64 {
         match self {
             // 512 pages in a scattered order.
-            Kernel::Walk4 | Kernel::Walk4Big => 0x40_0abc + ((i * 37 % 512) << 12),
+            Kernel::Walk4 | Kernel::Walk4Big | Kernel::Step4 => 0x40_0abc + ((i * 37 % 512) << 12),
             // As many of 16 and of 64 KiB; with 16 KiB, bit 47 takes a level of its own.
             Kernel::Walk4Kib16 => 0x8000_0000_0abc + ((i * 37 % 512) << 14),
             Kernel::Walk3Kib64 => 0xabc + ((i * 37 % 512) << 16),
@@ -115,6 +122,7 @@ impl Kernel {
         match self {
             Kernel::Walk4Long | Kernel::HitLong => long_memory(),
             Kernel::Walk4Kib16 | Kernel::Walk3Kib64 => tables(self.granule()),
+            Kernel::Step4 => clean(memory()),
             _ => in_order(memory(), self.ee()),
         }
     }
@@ -136,7 +144,7 @@ impl Kernel {
     /// The kind of its accesses.
     fn kind(self) -> u8 {
         match self {
-            Kernel::HitFault => WRITE,
+            Kernel::HitFault | Kernel::Step4 => WRITE,
             _ => READ,
         }
     }
@@ -195,6 +203,16 @@ pub fn memory() -> Vec<u8> {
     }
     for i in 0..64 {
         put(0x5000 + 8 * i as usize, 0x8020_07c3 | i << 12);
+    }
+    memory
+}
+
+/// These tables with the 512 pages writable-clean and not accessed: each write
+/// has an update due.
+fn clean(mut memory: Vec<u8>) -> Vec<u8> {
+    for i in 0..512 {
+        let at = 0x3000 + 8 * i as usize;
+        put(&mut memory, at, 0x0008_0000_8000_03c3 | i << 12);
     }
     memory
 }
@@ -355,6 +373,21 @@ impl Bed {
                 black_box(&mut *plain).invalidate_all();
                 0
             }),
+            (Kernel::Step4, Side::Ours) => answers(calls, kind, addresses, move |access| {
+                stepwise::<boundary::Stepwise>(memory, black_box(regime), access)
+            }),
+            (Kernel::Step4, Side::Plain) => answers(calls, kind, addresses, move |access| {
+                stepwise::<plain::Stepwise>(plain_memory, black_box(regime), access)
+            }),
+            (Kernel::Step4Offer, Side::Ours) => {
+                offers::<boundary::Stepwise>(calls, regime, Steps::value)
+            }
+            (Kernel::Step4Offer, Side::Plain) => {
+                offers::<plain::Stepwise>(calls, regime, Steps::value)
+            }
+            (Kernel::Step4Offer, Side::Loop) => {
+                offers::<boundary::Stepwise>(calls, regime, |_, value| value as u8)
+            }
             (Kernel::Load | Kernel::SessionStore, Side::Loop) => offsets(calls, |at| at as u64),
             (Kernel::Store, Side::Loop) => offsets(calls, |_| 0),
             (Kernel::SetRegime | Kernel::InvalidateAll, Side::Loop) => {
@@ -373,6 +406,48 @@ impl Bed {
             }),
         }
     }
+}
+
+/// A walk a descriptor at a time. Its caller loads each descriptor from the
+/// tables, in a few instructions that count on both sides alike.
+#[inline(always)]
+fn stepwise<S: Steps>(memory: &[u8], regime: &Regime, access: &Access) -> Answer {
+    let mut walk = S::start(regime, access);
+    while let Some(address) = walk.wanted() {
+        let at = address.wrapping_sub(POOL_ADDRESS) as usize;
+        match memory.get(at..).and_then(|rest| rest.first_chunk()) {
+            Some(bytes) => walk.value(u64::from_le_bytes(*bytes)),
+            None => walk.unreachable(),
+        };
+    }
+    walk.end().0
+}
+
+/// The third descriptor on the way to the pages from 0x400000 on.
+const LEVEL_2: u64 = 0x4000_3003;
+
+/// A walk to such a page that wants that descriptor.
+fn at_level_2<S: Steps>(regime: &Regime) -> S {
+    let access = Access {
+        address: 0x40_0abc,
+        size: 4,
+        el0: 1,
+        kind: WRITE,
+        spare: [0; 6],
+    };
+    let mut walk = S::start(regime, &access);
+    walk.value(0x4000_1003);
+    walk.value(0x4000_2003);
+    walk
+}
+
+/// Calls with a copy of that walk, and the descriptor. The loop alone makes the
+/// copy too, so that it is not counted.
+fn offers<S: Steps>(calls: u64, regime: &Regime, call: impl Fn(&mut S, u64) -> u8) -> u64 {
+    let walk = at_level_2(regime);
+    codes(calls, move || {
+        call(black_box(&mut { walk }), black_box(LEVEL_2))
+    })
 }
 
 // Each loop is a function of its own for each call, so that its registers are

@@ -11,6 +11,7 @@ mod boundary;
 mod check;
 mod kernels;
 mod plain;
+mod steps;
 
 use std::env;
 use std::hint::black_box;

@@ -1,5 +1,9 @@
 //! The same rules in plain Rust, with no thought of a proof: a loop over the
-//! levels, and a session changed where it lies.
+//! levels, a session changed where it lies, and a walk a descriptor at a time.
+
+mod stepwise;
+
+pub use stepwise::Stepwise;
 
 use crate::boundary::{Access, Answer, Regime};
 use crate::boundary::{FAULT, FETCH, PROBE_READ, PROBE_WRITE, READ, REFUSED, SUCCESS};
@@ -131,16 +135,21 @@ fn attribute_known(byte: u8) -> bool {
 }
 
 fn refuse_regime(length: usize, regime: &Regime) -> Option<u8> {
-    let root_known = |root: u64| aligned(regime, root) && root < 1 << 48;
     if !pool_fits(length, regime) {
         Some(1)
     } else if !aligned(regime, regime.address) || regime.address > (1 << 48) - regime.length as u64
     {
         Some(2)
-    } else if !(16..=39).contains(&regime.tsz0)
-        || !(16..=39).contains(&regime.tsz1)
-        || regime.output > 5
-    {
+    } else {
+        refuse_settings(regime)
+    }
+}
+
+/// What is wrong with a regime, the pool aside.
+#[inline(always)]
+fn refuse_settings(regime: &Regime) -> Option<u8> {
+    let root_known = |root: u64| aligned(regime, root) && root < 1 << 48;
+    if !(16..=39).contains(&regime.tsz0) || !(16..=39).contains(&regime.tsz1) || regime.output > 5 {
         Some(3)
     } else if !root_known(regime.root0) || !root_known(regime.root1) {
         Some(4)

@@ -1,7 +1,8 @@
 /*
- * Builds four tables for a guest, walks them, and then uses a session.
- * The run script next to this file builds it and compares what it prints
- * with example.out.
+ * Builds four tables for a guest, walks them, uses a session, and then walks
+ * tables that the guest may write meanwhile, a descriptor at a time. The run
+ * script next to this file builds it and compares what it prints with
+ * example.out.
  */
 #include <inttypes.h>
 #include <stdio.h>
@@ -148,6 +149,68 @@ static void a_session(const struct vmsa_regime *regime)
     printf("leaf 0x%016" PRIx64 "\n", get(LEAF));
 }
 
+/*
+ * Tables that nobody can lend, since the guest's vCPUs write them: a monitor
+ * loads a descriptor at a time, and makes the update by compare-and-swap. With
+ * ee 1 it would swap the bytes of what it loads and of what it stores.
+ */
+static uint64_t live[sizeof memory / 8];
+
+/* A descriptor of them; none where the address is not theirs. */
+static uint64_t *live_at(uint64_t address)
+{
+    const uint64_t offset = address - POOL;
+
+    return offset < sizeof live ? &live[offset / 8] : NULL;
+}
+
+static void offer(struct vmsa_stepwise *walk)
+{
+    const uint64_t *at = live_at(walk->address);
+
+    if (at)
+        vmsa_stepwise_value(walk, __atomic_load_n(at, __ATOMIC_ACQUIRE));
+    else
+        vmsa_stepwise_unreachable(walk);
+}
+
+/* The update that is due; fails where the guest wrote the leaf meanwhile. */
+static int update(const struct vmsa_stepwise *walk)
+{
+    uint64_t expected = walk->expected;
+
+    return __atomic_compare_exchange_n(live_at(walk->address), &expected,
+                                       walk->value, 0, __ATOMIC_SEQ_CST,
+                                       __ATOMIC_SEQ_CST);
+}
+
+static void live_walk(const char *what, const struct vmsa_regime *regime,
+                      struct vmsa_access access)
+{
+    struct vmsa_stepwise walk;
+
+    do {
+        vmsa_stepwise_start(regime, &access, &walk);
+        while (!walk.ended)
+            offer(&walk);
+    } while (walk.update && !update(&walk));
+    print_answer(what, &walk.answer);
+}
+
+static void live_walks(const struct vmsa_regime *regime)
+{
+    size_t i;
+
+    puts("a descriptor at a time");
+    build_tables();
+    for (i = 0; i < sizeof live / 8; i++)
+        live[i] = get(POOL + 8 * i);
+    live_walk("read", regime, four_bytes(VMSA_READ, 0x403ABC));
+    live_walk("write", regime, four_bytes(VMSA_WRITE, 0x403ABC));
+    live_walk("write, next page", regime, four_bytes(VMSA_WRITE, 0x404ABC));
+    printf("leaf 0x%016" PRIx64 "\n", *live_at(LEAF));
+}
+
 int main(void)
 {
     const struct vmsa_regime regime = build_regime();
@@ -159,5 +222,6 @@ int main(void)
     build_tables();
     plain_walks(&regime);
     a_session(&regime);
+    live_walks(&regime);
     return 0;
 }

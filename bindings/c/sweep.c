@@ -2,6 +2,10 @@
  * Random calls, the same on every machine: prints how they ended, and one
  * number over every answer, session and memory. What the library does on one
  * machine it has to do on another; the run script compares.
+ *
+ * Each plain walk is made a descriptor at a time too, and such walks are made
+ * from any bytes. Where they are not as the plain walk is, or do not end, this
+ * says so and fails.
  */
 #include <inttypes.h>
 #include <stdio.h>
@@ -41,6 +45,7 @@ static unsigned granule;          /* its number, as a rule */
 static unsigned bits;             /* of a page of that granule, */
 static unsigned unit;             /* and its bytes */
 static uint8_t memory[VMSA_MEMORY_LIMIT];
+static uint8_t updated[VMSA_MEMORY_LIMIT]; /* what a walk is to leave of it */
 static uint64_t pool;             /* its physical address, as a rule */
 static int big;                   /* the byte order of its tables, as a rule */
 static struct vmsa_regime regime; /* the last one that was accepted */
@@ -74,7 +79,7 @@ static int one_in(unsigned n)
 /* How the calls ended, and the number over all that they left. */
 
 static unsigned successes[GRANULES], faults, refusals[UINT8_MAX + 1], accepted,
-    held, under, accessed, accessed_big, dirtied;
+    held, under, accessed, accessed_big, dirtied, stepped, updates, differences;
 static uint64_t digest = UINT64_C(0xCBF29CE484222325);
 
 static void add(const void *from, size_t size)
@@ -121,6 +126,14 @@ static void add_answer(const struct vmsa_answer *answer,
     accessed += answer->accessed;
     accessed_big += r->ee != 0 && answer->accessed;
     dirtied += answer->dirtied;
+}
+
+static void check(const char *what, int ok)
+{
+    if (ok)
+        return;
+    if (differences++ < 10)
+        fprintf(stderr, "a descriptor at a time: %s\n", what);
 }
 
 /* A world: tables with entries at a few indexes, and a regime. */
@@ -345,15 +358,139 @@ static void store(void)
     add_reply(vmsa_session_store(&session, memory, length, at, value));
 }
 
+/* Walks a descriptor at a time */
+
+#define OFFERS 4 /* at most, of any walk */
+
+/* A descriptor of the pool in a memory; none where it is not there. */
+static uint8_t *bytes_at(uint8_t *from, const struct vmsa_regime *r,
+                         uint64_t at)
+{
+    const uint64_t offset = at - r->address;
+
+    if (r->length < 8 || offset > r->length - 8 ||
+        r->start + r->length > memory_bytes())
+        return NULL;
+    return from + r->start + (size_t)offset;
+}
+
+static uint64_t value_of(const uint8_t *bytes, int reversed)
+{
+    uint64_t value = 0;
+    int byte;
+
+    for (byte = 0; byte < 8; byte++)
+        value |= (uint64_t)bytes[reversed ? 7 - byte : byte] << (8 * byte);
+    return value;
+}
+
+static void put(uint8_t *bytes, int reversed, uint64_t value)
+{
+    int byte;
+
+    for (byte = 0; byte < 8; byte++)
+        bytes[reversed ? 7 - byte : byte] = (uint8_t)(value >> (8 * byte));
+}
+
+/* What the pool has at the address that a walk names. */
+static void offer(struct vmsa_stepwise *steps, const struct vmsa_regime *r)
+{
+    const uint8_t *bytes = bytes_at(memory, r, steps->address);
+    uint8_t reply;
+
+    if (bytes != NULL)
+        reply = vmsa_stepwise_value(steps, value_of(bytes, r->ee));
+    else
+        reply = vmsa_stepwise_unreachable(steps);
+    check("an offer is refused", reply == VMSA_ACCEPTED);
+}
+
+/* Gives how often a descriptor was offered. */
+static int walk_steps(const struct vmsa_regime *r,
+                      const struct vmsa_access *access,
+                      struct vmsa_stepwise *steps)
+{
+    int offers;
+
+    memset(steps, 0xAA, sizeof *steps);
+    vmsa_stepwise_start(r, access, steps);
+    for (offers = 0; offers < OFFERS && !steps->ended; offers++)
+        offer(steps, r);
+    add(steps, sizeof *steps);
+    return offers;
+}
+
+/* Copies the memory, and makes the update that is due in the copy. */
+static void update_copy(const struct vmsa_regime *r,
+                        const struct vmsa_stepwise *steps)
+{
+    uint8_t *bytes;
+
+    memcpy(updated, memory, memory_bytes());
+    if (!steps->update)
+        return;
+    bytes = bytes_at(updated, r, steps->address);
+    check("an update is not in the pool", bytes != NULL);
+    if (bytes == NULL)
+        return;
+    check("another value is expected",
+          value_of(bytes, r->ee) == steps->expected);
+    put(bytes, r->ee, steps->value);
+}
+
+/* The answer of the plain walk: rows 1 and 2 are of the pool alone. */
+static void compare(const struct vmsa_answer *answer,
+                    const struct vmsa_stepwise *steps, int offers)
+{
+    if (answer->tag == VMSA_REFUSED && answer->refusal <= 2)
+        return;
+    stepped++;
+    updates += steps->update;
+    check("it has not ended", steps->ended == 1);
+    check("another answer",
+          memcmp(&steps->answer, answer, sizeof *answer) == 0);
+    check("another count of reads", offers == answer->reads);
+    check("other bytes", memcmp(updated, memory, memory_bytes()) == 0);
+}
+
+/* A walk that no call leaves, and any descriptors: it ends all the same. */
+static void walk_any(void)
+{
+    struct vmsa_regime r = random_regime();
+    struct vmsa_access access = random_access();
+    struct vmsa_stepwise steps;
+    int offers;
+
+    vmsa_stepwise_start(&r, &access, &steps);
+    steps.address = next();
+    steps.ended = 0;
+    steps.left = (uint8_t)(one_in(2) ? below(4) : below(256));
+    steps.tables = (uint8_t)below(256);
+    memset(steps.spare, (int)below(256), sizeof steps.spare);
+    for (offers = 0; offers < OFFERS && !steps.ended; offers++) {
+        if (one_in(16))
+            vmsa_stepwise_unreachable(&steps);
+        else
+            vmsa_stepwise_value(&steps, descriptor());
+        add(&steps, sizeof steps);
+    }
+    check("any bytes: it has not ended", steps.ended == 1);
+}
+
 static void walk(void)
 {
     struct vmsa_regime r = one_in(4) ? random_regime() : regime;
     struct vmsa_access access = random_access();
+    size_t length = length_now();
+    struct vmsa_stepwise steps;
     struct vmsa_answer answer;
+    int offers = walk_steps(&r, &access, &steps);
 
+    update_copy(&r, &steps);
     memset(&answer, 0xAA, sizeof answer);
-    vmsa_walk(memory, length_now(), &r, &access, &answer);
+    vmsa_walk(memory, length, &r, &access, &answer);
     add_answer(&answer, &r);
+    compare(&answer, &steps, offers);
 }
 
 static void access_session(void)
@@ -382,6 +519,8 @@ static void call(void)
         store();
     else if (which < 16)
         walk();
+    else if (which == 16)
+        walk_any();
     else
         access_session();
 }
@@ -437,7 +576,9 @@ int main(void)
     for (i = 1; i <= UINT8_MAX; i++)
         if (refusals[i] != 0)
             printf(" %d: %u", i, refusals[i]);
-    printf("\n%d random calls, digest 0x%016" PRIx64 "\n", WORLDS * CALLS,
+    printf("\n%u walks a descriptor at a time too, %u with an update\n",
+           stepped, updates);
+    printf("%d random calls, digest 0x%016" PRIx64 "\n", WORLDS * CALLS,
            digest);
-    return 0;
+    return differences != 0;
 }

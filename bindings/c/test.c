@@ -2,13 +2,15 @@
  * Runs the library over the worked cases P1 to P12, every refusal, the largest
  * pool and memory, a script of a session, the bits of tables, the spare bytes
  * and VMSA_REGIME_INIT; over what EE turns; and over the tables of each granule
- * and what another granule turns; all of it in both byte orders. Then over the
- * texts. Prints how many checks were made, and how many failed.
+ * and what another granule turns; all of it in both byte orders. Each walk is
+ * made a descriptor at a time too; and such walks have cases of their own, with
+ * bytes that no call leaves among them. Then over the texts. Prints how many
+ * checks were made, and how many failed.
  *
  * Each call goes through one of the expect functions. It takes what the call
  * is given and its answer; want has what the call is to leave of memory and
- * session. Every byte of the three is compared. A reader of a file of cases
- * can use them in the same way.
+ * session, or of the walk a descriptor at a time. Every byte is compared. A
+ * reader of a file of cases can use them in the same way.
  */
 #include <stdio.h>
 #include <string.h>
@@ -47,6 +49,7 @@
 
 static struct world {
     struct vmsa_session session;
+    struct vmsa_stepwise walk;
     size_t length; /* of the memory lent; no call changes it */
     uint8_t *room;
     uint8_t usual[GUARD + 2 * LENGTH + GUARD];
@@ -124,8 +127,8 @@ static uint8_t *memory(void)
     return lent.length == 0 ? NULL : lent.room + GUARD;
 }
 
-static void expect_walk(const char *name, struct vmsa_regime regime,
-                        struct vmsa_access access, struct vmsa_answer answer)
+static void expect_plain(const char *name, struct vmsa_regime regime,
+                         struct vmsa_access access, struct vmsa_answer answer)
 {
     struct vmsa_answer got;
     const struct vmsa_regime regime_before = regime;
@@ -244,6 +247,190 @@ static struct vmsa_answer refused(unsigned number)
     return answer;
 }
 
+/* The walk a descriptor at a time */
+
+/* It is to want the descriptor at an address, under tables with these bits. */
+static void wants(uint64_t address, unsigned level, unsigned tables)
+{
+    want.walk.answer = refused(0);
+    want.walk.address = address;
+    want.walk.expected = 0;
+    want.walk.value = 0;
+    want.walk.ended = 0;
+    want.walk.update = 0;
+    want.walk.left = (uint8_t)(LEVELS - 1 - level);
+    want.walk.tables = (uint8_t)tables;
+    memset(want.walk.spare, 0, sizeof want.walk.spare);
+}
+
+/* It is to end with an answer, and an update at an address. */
+static void ends_with(struct vmsa_answer answer, uint64_t address,
+                      uint64_t expected, uint64_t value)
+{
+    wants(address, LEVELS - 1, 0);
+    want.walk.answer = answer;
+    want.walk.expected = expected;
+    want.walk.value = value;
+    want.walk.ended = 1;
+    want.walk.update = 1;
+}
+
+/* It is to end with an answer, and no update. */
+static void ends(struct vmsa_answer answer)
+{
+    ends_with(answer, 0, 0, 0);
+    want.walk.update = 0;
+}
+
+/* After the end both offers are refused, and change no byte. */
+static void check_walk(const char *name)
+{
+    check_bytes(name, "walk", &lent.walk, &want.walk, sizeof lent.walk);
+    if (!want.walk.ended)
+        return;
+    check(name, "value after the end",
+          vmsa_stepwise_value(&lent.walk, UINT64_MAX) == 12);
+    check(name, "unreachable after the end",
+          vmsa_stepwise_unreachable(&lent.walk) == 12);
+    check_bytes(name, "walk after the end", &lent.walk, &want.walk,
+                sizeof lent.walk);
+}
+
+/* A walk has the regime and the access of its start, with no spare byte set. */
+static void wants_start(struct vmsa_regime regime, struct vmsa_access access)
+{
+    want.walk.regime = regime;
+    want.walk.access = access;
+    memset(want.walk.regime.spare, 0, sizeof regime.spare);
+    memset(want.walk.access.spare, 0, sizeof access.spare);
+}
+
+/* A start writes every byte, whatever stood there. */
+static void expect_start(const char *name, struct vmsa_regime regime,
+                         struct vmsa_access access)
+{
+    static const int fills[] = { 0x00, 0xFF, 0xA5 };
+    const struct vmsa_regime regime_before = regime;
+    const struct vmsa_access access_before = access;
+    size_t i;
+
+    wants_start(regime, access);
+    for (i = 0; i < sizeof fills / sizeof fills[0]; i++) {
+        memset(&lent.walk, fills[i], sizeof lent.walk);
+        vmsa_stepwise_start(&regime, &access, &lent.walk);
+        check_walk(name);
+    }
+    check_bytes(name, "regime", &regime, &regime_before, sizeof regime);
+    check_bytes(name, "access", &access, &access_before, sizeof access);
+}
+
+static void expect_value(const char *name, uint64_t value)
+{
+    check(name, "reply", vmsa_stepwise_value(&lent.walk, value) == 0);
+    check_walk(name);
+}
+
+static void expect_unreachable(const char *name)
+{
+    check(name, "reply", vmsa_stepwise_unreachable(&lent.walk) == 0);
+    check_walk(name);
+}
+
+static void to_bytes(uint8_t bytes[8], uint64_t value, int big)
+{
+    int i;
+
+    for (i = 0; i < 8; i++)
+        bytes[big ? 7 - i : i] = (uint8_t)(value >> (8 * i));
+}
+
+static uint64_t from_bytes(const uint8_t bytes[8], int big)
+{
+    uint64_t value = 0;
+    int i;
+
+    for (i = 0; i < 8; i++)
+        value |= (uint64_t)bytes[big ? 7 - i : i] << (8 * i);
+    return value;
+}
+
+/* The bytes of a descriptor of the pool; none where it is not there. */
+static uint8_t *bytes_at(const struct vmsa_regime *regime, uint64_t address)
+{
+    const uint64_t offset = address - regime->address;
+
+    if (offset > regime->length - 8)
+        return NULL;
+    return memory() + regime->start + (size_t)offset;
+}
+
+struct descriptor {
+    uint64_t address, value;
+};
+
+/*
+ * Offers what the pool has until the walk ends, and checks how often that is.
+ * Gives the last descriptor that was wanted.
+ */
+static struct descriptor offer_pool(const char *name,
+                                    const struct vmsa_regime *regime,
+                                    unsigned reads)
+{
+    struct descriptor last = { 0, 0 };
+    unsigned offers;
+
+    for (offers = 0; offers < LEVELS && !lent.walk.ended; offers++) {
+        const uint8_t *bytes = bytes_at(regime, lent.walk.address);
+        uint8_t reply;
+
+        wants(lent.walk.address, LEVELS - 1u - lent.walk.left,
+              lent.walk.tables);
+        check_walk(name);
+        last.address = lent.walk.address;
+        last.value = bytes ? from_bytes(bytes, regime->ee) : 0;
+        reply = bytes ? vmsa_stepwise_value(&lent.walk, last.value)
+                      : vmsa_stepwise_unreachable(&lent.walk);
+        check(name, "reply", reply == 0);
+    }
+    check(name, "offers", offers == reads);
+    return last;
+}
+
+/*
+ * A walk over what the pool has: its end is to be that of the plain walk, and
+ * its update is to make of the memory what the plain walk makes of it.
+ */
+static void expect_steps(const char *name, struct vmsa_regime regime,
+                         struct vmsa_access access, struct vmsa_answer answer)
+{
+    struct descriptor last;
+    uint8_t *updated = NULL;
+
+    wants_start(regime, access);
+    vmsa_stepwise_start(&regime, &access, &lent.walk);
+    last = offer_pool(name, &regime, answer.reads);
+    ends(answer);
+    if (answer.accessed || answer.dirtied) {
+        ends_with(answer, last.address, last.value, lent.walk.value);
+        updated = bytes_at(&regime, last.address);
+    }
+    check_walk(name);
+    if (updated)
+        to_bytes(updated, lent.walk.value, regime.ee);
+    check_world(name);
+    if (updated)
+        to_bytes(updated, last.value, regime.ee);
+}
+
+/* The plain walk; first a descriptor at a time, where the pool has no say. */
+static void expect_walk(const char *name, struct vmsa_regime regime,
+                        struct vmsa_access access, struct vmsa_answer answer)
+{
+    if (answer.tag != VMSA_REFUSED || answer.refusal > 2)
+        expect_steps(name, regime, access, answer);
+    expect_plain(name, regime, access, answer);
+}
+
 /* The world of the worked cases */
 
 static struct vmsa_regime worked_regime(void)
@@ -274,10 +461,8 @@ static void put_bytes(struct world *world, uint64_t address,
 static void put(struct world *world, uint64_t address, uint64_t value)
 {
     uint8_t bytes[8];
-    int i;
 
-    for (i = 0; i < 8; i++)
-        bytes[ee ? 7 - i : i] = (uint8_t)(value >> (8 * i));
+    to_bytes(bytes, value, ee);
     put_bytes(world, address, bytes);
 }
 
@@ -444,23 +629,29 @@ static struct vmsa_answer worked_answer(const struct worked *row)
     }
 }
 
+static struct vmsa_regime regime_of(const struct worked *row)
+{
+    struct vmsa_regime regime = worked_regime();
+
+    regime.output = row->output;
+    regime.ha = row->ha;
+    regime.hd = row->hd;
+    regime.attributes = UINT64_MAX << 8 | row->attribute;
+    return regime;
+}
+
 static void test_worked(void)
 {
     size_t i;
 
     for (i = 0; i < sizeof worked / sizeof worked[0]; i++) {
         const struct worked *row = &worked[i];
-        struct vmsa_regime regime = worked_regime();
 
-        regime.output = row->output;
-        regime.ha = row->ha;
-        regime.hd = row->hd;
-        regime.attributes = UINT64_MAX << 8 | row->attribute;
         fresh();
         given(THIRD, row->third);
         given(LEAF, row->leaf);
         put(&want, LEAF, row->after);
-        expect_walk(row->name, regime,
+        expect_walk(row->name, regime_of(row),
                     access_of(row->kind, row->address, row->size),
                     worked_answer(row));
     }
@@ -1458,16 +1649,21 @@ static struct vmsa_regime shaped_regime(unsigned tsz)
 }
 
 /*
- * The tables on the way of an address to a level. What a descriptor of a table
- * has between bit 12 and the granule has no say.
+ * The descriptor at a level, of the next level's table. What it has between bit
+ * 12 and the granule has no say.
  */
+static uint64_t onward(unsigned tsz, unsigned level)
+{
+    return table_of(tsz, level + 1) | (granule() - 4096) | 3;
+}
+
+/* The tables on the way of an address to a level. */
 static void given_way(unsigned tsz, uint64_t address, unsigned last)
 {
     unsigned level;
 
     for (level = first_level(tsz); level < last; level++)
-        given(entry_of(tsz, level, address),
-              table_of(tsz, level + 1) | (granule() - 4096) | 3);
+        given(entry_of(tsz, level, address), onward(tsz, level));
 }
 
 /* The pool with nothing but that way, and a descriptor at its end. */
@@ -1509,11 +1705,17 @@ static struct vmsa_answer found_at(unsigned level, uint64_t leaf,
     return answer;
 }
 
+/* What a write makes of a writable-clean leaf. */
+static uint64_t dirty_of(uint64_t leaf)
+{
+    return (leaf | 0x400) & ~UINT64_C(0x80);
+}
+
 /* A write through a writable-clean leaf: a walk, a miss, and a hit. */
 static void expect_leaf(const char *name, unsigned tsz, uint64_t address,
                         unsigned level, uint64_t leaf)
 {
-    const uint64_t dirty = (leaf | 0x400) & ~UINT64_C(0x80);
+    const uint64_t dirty = dirty_of(leaf);
     const struct vmsa_access access = access_of(VMSA_WRITE, address, 1);
     const struct vmsa_answer answer = found_at(
         level, leaf, address, AF | DIRTIED, reads_to(tsz, level));
@@ -2109,6 +2311,370 @@ static void test_init(void)
     expect_set("init, set", regime, VMSA_ACCEPTED);
 }
 
+/* Walks a descriptor at a time: where they lead, and where they end */
+
+/* A worked case: the addresses that it names, and its update. */
+static void expect_worked_steps(const struct worked *row)
+{
+    const uint64_t last = (row->third & ~UINT64_C(0xFFF)) + 0x18;
+    const struct vmsa_answer answer = worked_answer(row);
+    unsigned level;
+
+    if (row->tag == VMSA_REFUSED)
+        ends(answer);
+    else
+        wants(POOL, 0, 0);
+    expect_start(row->name, regime_of(row),
+                 access_of(row->kind, row->address, row->size));
+    if (row->tag == VMSA_REFUSED)
+        return;
+    for (level = 0; level < 2; level++) {
+        wants(on_the_way[level + 1].address, level + 1, 0);
+        expect_value(row->name, on_the_way[level].value);
+    }
+    wants(last, 3, 0);
+    expect_value(row->name, row->third);
+    ends(answer);
+    if (row->after != row->leaf)
+        ends_with(answer, LEAF, row->leaf, row->after);
+    if (last < POOL + LENGTH)
+        expect_value(row->name, last == LEAF ? row->leaf : 0);
+    else
+        expect_unreachable(row->name);
+}
+
+static void test_steps_worked(void)
+{
+    size_t i;
+
+    for (i = 0; i < sizeof worked / sizeof worked[0]; i++)
+        expect_worked_steps(&worked[i]);
+}
+
+/* Starts a walk under a regime like that of shaped_regime, up to a level. */
+static void expect_way(const char *name, struct vmsa_regime regime,
+                       struct vmsa_access access, unsigned last)
+{
+    const unsigned tsz = regime.tsz0;
+    unsigned level = first_level(tsz);
+
+    wants(entry_of(tsz, level, access.address), level, 0);
+    expect_start(name, regime, access);
+    for (; level < last; level++) {
+        wants(entry_of(tsz, level + 1, access.address), level + 1, 0);
+        expect_value(name, onward(tsz, level));
+    }
+}
+
+/* The ends of a write at a level: no descriptor, a bad one, and a leaf. */
+static void expect_ends(unsigned tsz, uint64_t address, unsigned level)
+{
+    const struct vmsa_regime regime = shaped_regime(tsz);
+    const struct vmsa_access access = access_of(VMSA_WRITE, address, 1);
+    const uint8_t reads = reads_to(tsz, level);
+    const uint64_t leaf = level == LAST_LEVEL ? CLEAN : BLOCK;
+
+    expect_way("steps", regime, access, level);
+    ends(fault(VMSA_EXTERNAL_ABORT + level, level, reads));
+    expect_unreachable("steps, unreachable");
+
+    expect_way("steps", regime, access, level);
+    ends(fault(VMSA_TRANSLATION_FAULT + level, level, reads));
+    expect_value("steps, bit 0 clear", ~UINT64_C(1));
+
+    if (level < LAST_LEVEL && !shape->blocks[level])
+        return;
+    expect_way("steps", regime, access, level);
+    ends_with(found_at(level, leaf, address, AF | DIRTIED, reads),
+              entry_of(tsz, level, address), leaf, dirty_of(leaf));
+    expect_value("steps, leaf", leaf);
+}
+
+/* From every first level to every level, in both ranges. */
+static void test_granule_steps(void)
+{
+    unsigned tsz, level;
+
+    for (tsz = LEAST_T; tsz <= MOST_T; tsz++)
+        for (level = first_level(tsz); level < LEVELS; level++) {
+            const uint64_t address = low_bits(SOME, 64 - tsz);
+
+            expect_ends(tsz, address, level);
+            expect_ends(tsz, address | UINT64_MAX << (64 - tsz), level);
+        }
+}
+
+/* Faults before any descriptor is wanted. */
+static void test_steps_start(void)
+{
+    struct vmsa_regime regime = worked_regime();
+
+    ends(fault(VMSA_TRANSLATION_FAULT, 0, 0));
+    expect_start("outside", regime, access_of(VMSA_READ, LIMIT48, 1));
+    regime.disabled0 = 1;
+    expect_start("disabled", regime, a_read());
+    regime = worked_regime();
+    regime.output = 0;
+    regime.root0 = UINT64_C(1) << 32;
+    ends(fault(VMSA_ADDRESS_SIZE_FAULT, 0, 0));
+    expect_start("root beyond the output size", regime, a_read());
+}
+
+/* Makes a call one that is refused with a number. */
+static void spoil(unsigned number, struct vmsa_regime *regime,
+                  struct vmsa_access *access)
+{
+    switch (number) {
+    case VMSA_REFUSED_SIZES:
+        regime->tsz1 = MOST_T + 1;
+        break;
+    case VMSA_REFUSED_ROOT:
+        regime->root1 = LIMIT48;
+        break;
+    case VMSA_REFUSED_ATTRIBUTES:
+        regime->attributes = 1;
+        break;
+    case VMSA_REFUSED_DIRTY_STATE:
+        regime->ha = 0;
+        break;
+    case VMSA_REFUSED_ACCESS_SIZE:
+        access->size = 32;
+        break;
+    default:
+        access->address = 0x403FFF;
+    }
+}
+
+/*
+ * The start is refused; and so is an offer to a walk that has not ended under
+ * such a regime or for such an access, as no call leaves one.
+ */
+static void refuses_start(unsigned number, struct vmsa_regime regime,
+                          struct vmsa_access access)
+{
+    ends(refused(number));
+    expect_start("steps, refused", regime, access);
+    lent.walk.ended = 0;
+    expect_value("steps, refused, value", CLEAN);
+    lent.walk.ended = 0;
+    expect_unreachable("steps, refused, unreachable");
+}
+
+/* Each mistake alone, and any two of them: the first counts. */
+static void test_steps_refused(void)
+{
+    static const unsigned numbers[] = { 3, 4, 5, 13, 6, 7 };
+    const size_t count = sizeof numbers / sizeof numbers[0];
+    size_t first, later;
+
+    for (first = 0; first < count; first++)
+        for (later = first; later < count; later++) {
+            struct vmsa_regime regime = worked_regime();
+            struct vmsa_access access = a_read();
+
+            spoil(numbers[later], &regime, &access);
+            spoil(numbers[first], &regime, &access);
+            refuses_start(numbers[first], regime, access);
+        }
+}
+
+/* P2, a descriptor at a time. */
+static void expect_write_steps(const char *name, struct vmsa_regime regime)
+{
+    expect_way(name, regime, a_write(), LAST_LEVEL);
+    ends_with(found(FRAME + 0xABC, AF | DIRTIED, 4), LEAF, CLEAN, DIRTY);
+    expect_value(name, CLEAN);
+}
+
+/* The pool has no say, both lengths of P12 among the numbers, nor has EE. */
+static void test_steps_no_say(void)
+{
+    static const size_t numbers[] = { 0, 1, 1048576, 1052672, SIZE_MAX };
+    struct vmsa_regime regime = worked_regime();
+    unsigned value;
+    size_t i;
+
+    for (i = 0; i < sizeof numbers / sizeof numbers[0]; i++) {
+        regime = worked_regime();
+        regime.start = numbers[i];
+        expect_write_steps("any pool start", regime);
+        regime.length = numbers[i];
+        expect_write_steps("any pool length", regime);
+        regime.address = numbers[i];
+        expect_write_steps("any pool address", regime);
+    }
+    for (value = 0; value <= UINT8_MAX; value++) {
+        regime.ee = (uint8_t)value;
+        expect_write_steps("any EE, steps", regime);
+    }
+}
+
+/* The bits of tables add up on the way. */
+static void test_steps_tables(void)
+{
+    static const struct {
+        uint64_t bits;
+        unsigned sum;
+    } rows[] = {
+        { NO_EL1_FETCH | NO_SAY, 1 },
+        { NO_EL0_FETCH | NO_WRITE, 11 },
+        { NO_EL0 | NO_WRITE, 15 }
+    };
+    struct vmsa_answer answer = fault(15, 3, 4);
+    unsigned level;
+
+    wants(POOL, 0, 0);
+    expect_start("sum", worked_regime(), a_read());
+    for (level = 0; level < LAST_LEVEL; level++) {
+        wants(on_the_way[level + 1].address, level + 1, rows[level].sum);
+        expect_value("sum", on_the_way[level].value | rows[level].bits);
+    }
+    answer.cacheable = 1;
+    ends(answer);
+    expect_value("sum", READ);
+}
+
+/* Puts something in every byte that has no say in an offer, and spare bit. */
+static void fill_unused(void)
+{
+    memset(&lent.walk.answer, 0xAA, sizeof lent.walk.answer);
+    memset(&lent.walk.expected, 0xAA, sizeof lent.walk.expected);
+    memset(&lent.walk.value, 0xAA, sizeof lent.walk.value);
+    lent.walk.update = 0xAA;
+    lent.walk.tables |= 0xA0;
+    memset(lent.walk.spare, 0xAA, sizeof lent.walk.spare);
+    memset(lent.walk.regime.spare, 0xAA, sizeof lent.walk.regime.spare);
+    memset(lent.walk.access.spare, 0xAA, sizeof lent.walk.access.spare);
+    want.walk = lent.walk; /* an offer leaves regime and access alone */
+}
+
+static void test_steps_unused(void)
+{
+    struct vmsa_regime regime = worked_regime();
+    struct vmsa_access access = a_write();
+    unsigned level;
+
+    memset(regime.spare, 0xAA, sizeof regime.spare);
+    memset(access.spare, 0xAA, sizeof access.spare);
+    for (level = 0; level < LEVELS; level++) {
+        expect_way("unused", regime, access, level);
+        fill_unused();
+        ends(fault(VMSA_EXTERNAL_ABORT + level, level, (uint8_t)(level + 1)));
+        expect_unreachable("unused, unreachable");
+    }
+    for (level = 0; level < LAST_LEVEL; level++) {
+        expect_way("unused", regime, access, level);
+        fill_unused();
+        wants(on_the_way[level + 1].address, level + 1, 0);
+        expect_value("unused, table", on_the_way[level].value);
+    }
+    fill_unused();
+    ends_with(found(FRAME + 0xABC, AF | DIRTIED, 4), LEAF, CLEAN, DIRTY);
+    expect_value("unused, leaf", CLEAN);
+}
+
+/* Any byte but 0 is an end, whatever stands beside it. */
+static void test_steps_ended(void)
+{
+    unsigned value;
+
+    for (value = 1; value <= UINT8_MAX; value++) {
+        expect_way("ended", worked_regime(), a_write(), LAST_LEVEL);
+        lent.walk.ended = (uint8_t)value;
+        want.walk = lent.walk;
+        check_walk("ended");
+        memset(&lent.walk, (int)value, sizeof lent.walk);
+        want.walk = lent.walk;
+        check_walk("ended, any bytes");
+    }
+}
+
+/* Bytes of 0 are a walk that has not ended, under a regime with T 0. */
+static void test_steps_zeroed(void)
+{
+    memset(&lent.walk, 0, sizeof lent.walk);
+    want.walk = lent.walk;
+    ends(refused(3));
+    expect_value("zeroed, value", CLEAN);
+    memset(&lent.walk, 0, sizeof lent.walk);
+    expect_unreachable("zeroed, unreachable");
+}
+
+/* The descriptor that is wanted may have any address. */
+static void test_steps_address(void)
+{
+    static const uint64_t addresses[] = { 0, 5, LIMIT48, UINT64_MAX };
+    size_t i;
+
+    for (i = 0; i < sizeof addresses / sizeof addresses[0]; i++) {
+        expect_way("address", worked_regime(), a_read(), LAST_LEVEL);
+        lent.walk.address = addresses[i];
+        ends_with(found(FRAME + 0xABC, AF, 4), addresses[i], CLEAN, READ);
+        expect_value("any address", CLEAN);
+    }
+}
+
+/* A walk with any sum, of which bits 3 to 0 count: a table, and a leaf. */
+static void test_steps_sum(void)
+{
+    struct vmsa_answer denied = fault(15, 3, 4);
+    unsigned sum;
+
+    denied.cacheable = 1;
+    for (sum = 0; sum <= UINT8_MAX; sum++) {
+        expect_way("any sum", worked_regime(), a_write(), 2);
+        lent.walk.tables = (uint8_t)sum;
+        wants(LEAF, 3, (sum & 15) | 1);
+        expect_value("any sum, table", TABLE | NO_EL1_FETCH);
+        lent.walk.tables = (uint8_t)sum;
+        if (sum & 12)
+            ends(denied);
+        else
+            ends_with(found(FRAME + 0xABC, DIRTIED, 4), LEAF, READ, DIRTY);
+        expect_value("any sum, leaf", READ);
+    }
+}
+
+/* A start, and then so many levels left. */
+static void start_left(unsigned tsz, unsigned left)
+{
+    const struct vmsa_regime regime = shaped_regime(tsz);
+    const struct vmsa_access access = access_of(VMSA_READ, 0, 1);
+
+    vmsa_stepwise_start(&regime, &access, &lent.walk);
+    lent.walk.left = (uint8_t)left;
+    want.walk = lent.walk;
+}
+
+/* With more levels left than there are, a walk is at the first level. */
+static void expect_left(unsigned tsz, unsigned left)
+{
+    const unsigned first = first_level(tsz);
+    const unsigned level =
+        left > LAST_LEVEL - first ? first : LAST_LEVEL - left;
+
+    start_left(tsz, left);
+    ends(fault(VMSA_EXTERNAL_ABORT + level, level, reads_to(tsz, level)));
+    expect_unreachable("left");
+    start_left(tsz, left);
+    ends(fault(VMSA_TRANSLATION_FAULT + level, level, reads_to(tsz, level)));
+    expect_value("left, bit 0 clear", 0);
+    if (level == LAST_LEVEL)
+        return;
+    start_left(tsz, left);
+    wants(table_of(tsz, level + 1), level + 1, 0);
+    expect_value("left, table", onward(tsz, level));
+}
+
+static void test_granule_left(void)
+{
+    unsigned tsz, left;
+
+    for (tsz = LEAST_T; tsz <= MOST_T; tsz++)
+        for (left = 0; left <= UINT8_MAX; left += left < 5 ? 1 : 50)
+            expect_left(tsz, left);
+}
+
 /* Texts */
 
 /* The numbers with a text of their own. */
@@ -2123,6 +2689,7 @@ static const unsigned known[] = {
     VMSA_REFUSED_PAGE_CROSSING,
     VMSA_REFUSED_STORE_ADDRESS,
     VMSA_REFUSED_NO_REGIME,
+    VMSA_REFUSED_WALK_ENDED,
     VMSA_REFUSED_DIRTY_STATE
 };
 #define KNOWN (sizeof known / sizeof known[0])
@@ -2232,6 +2799,20 @@ static void test_order(void)
     test_order_held();
 }
 
+static void test_steps(void)
+{
+    test_steps_worked();
+    test_steps_start();
+    test_steps_refused();
+    test_steps_no_say();
+    test_steps_tables();
+    test_steps_unused();
+    test_steps_ended();
+    test_steps_zeroed();
+    test_steps_address();
+    test_steps_sum();
+}
+
 static void test_granules(void)
 {
     for (shape = shapes; shape < shapes + SHAPES; shape++) {
@@ -2247,6 +2828,8 @@ static void test_granules(void)
         test_granule_entries();
         test_granule_numbers();
         test_granule_limit();
+        test_granule_steps();
+        test_granule_left();
     }
     shape = shapes;
     test_granule_turned();
@@ -2263,6 +2846,7 @@ int main(void)
         test_walks();
         test_sessions();
         test_order();
+        test_steps();
         test_granules();
     }
     printf("%u checks, %u failed\n", checks, failures);

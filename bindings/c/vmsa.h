@@ -30,8 +30,9 @@
  *
  * What is returned
  *
- * An answer, and the session given to vmsa_session_empty, are only written:
- * every byte, whatever stood there, so they need not be initialised.
+ * An answer, the session given to vmsa_session_empty and the walk given to
+ * vmsa_stepwise_start are only written: every byte, whatever stood there, so
+ * they need not be initialised.
  *
  * No struct has padding; bytes without a use are named spare. In what you pass
  * they may have any value, and have no say; pass 0 all the same, since a later
@@ -51,10 +52,11 @@
  *     of the old 8 bytes with the new, not swapped, whatever ee is. Where
  *     that fails the session, if one was used, holds a mark that was not made:
  *     empty it (vmsa_session_invalidate_all), take a new copy and call again.
- * A stepwise walk that hands out the expected and the new value is planned.
+ * Or it walks a descriptor at a time (vmsa_stepwise_start), which lends nothing
+ * and hands out the expected and the new value of the one update.
  *
- * Two threads may call at the same time unless they share a memory, a session
- * or an answer.
+ * Two threads may call at the same time unless they share a memory, a session,
+ * an answer or a walk.
  */
 #ifndef VMSA_H
 #define VMSA_H
@@ -71,7 +73,7 @@ extern "C" {
 #endif
 
 /* The version of this interface; vmsa_version() gives the library's. */
-#define VMSA_VERSION 9u
+#define VMSA_VERSION 10u
 
 /*
  * The most bytes of a lent memory, and of a pool: 256 tables of 4 KiB, 64 of
@@ -181,7 +183,8 @@ enum vmsa_fault_code {
     VMSA_TRANSLATION_FAULT = 4,
     VMSA_ACCESS_FLAG_FAULT = 8,
     VMSA_PERMISSION_FAULT = 12,
-    VMSA_EXTERNAL_ABORT = 20, /* on the walk: a descriptor outside the pool */
+    VMSA_EXTERNAL_ABORT = 20, /* on the walk: a descriptor outside the pool,
+                                 or said to be unreachable */
     VMSA_ALIGNMENT_FAULT = 33
 };
 
@@ -191,6 +194,8 @@ enum vmsa_fault_code {
  *   vmsa_session_set_regime  1, 2, 3, 4, 5, 13
  *   vmsa_session_access      9, 1, 6, 7
  *   vmsa_session_store       9, 1, 8
+ *   vmsa_stepwise_start      3, 4, 5, 13, 6, 7
+ *   vmsa_stepwise_value, vmsa_stepwise_unreachable  12
  * Later versions add numbers: a switch over them needs a default.
  */
 enum vmsa_refusal {
@@ -213,6 +218,7 @@ enum vmsa_refusal {
     VMSA_REFUSED_STORE_ADDRESS = 8, /* not a multiple of 8, or not in the
                                        pool */
     VMSA_REFUSED_NO_REGIME = 9,     /* the session has no regime yet */
+    VMSA_REFUSED_WALK_ENDED = 12,   /* offered to a walk that has ended */
     VMSA_REFUSED_DIRTY_STATE = 13   /* hd is set and ha is not */
 };
 
@@ -261,6 +267,30 @@ struct vmsa_session {
     struct vmsa_entry entries[VMSA_ENTRIES];
     uint8_t set;
     uint8_t spare[7];
+};
+
+/*
+ * A walk a descriptor at a time, for tables that cannot be lent. Any bytes are
+ * one; start with vmsa_stepwise_start, which writes every byte. It is plain
+ * data and may be copied. Read address, ended, answer, update, expected and
+ * value; write none of its fields.
+ */
+struct vmsa_stepwise {
+    struct vmsa_regime regime; /* those of the start, spare bytes 0 */
+    struct vmsa_access access;
+    struct vmsa_answer answer; /* once ended; before that tag VMSA_REFUSED
+                                  with refusal 0 */
+    uint64_t address;  /* of the descriptor that is wanted; once ended, of the
+                          update where one is due, or else 0 */
+    uint64_t expected; /* the value that was offered, where an update is due */
+    uint64_t value;    /* the new value, where an update is due */
+    uint8_t ended;
+    uint8_t update;    /* ended, and an update is due */
+    uint8_t left;      /* levels below the wanted descriptor: 3 less its level;
+                          0 once ended */
+    uint8_t tables;    /* as in vmsa_entry, of the tables so far; 0 once
+                          ended */
+    uint8_t spare[4];
 };
 
 uint32_t vmsa_version(void);
@@ -314,6 +344,38 @@ uint8_t vmsa_session_store(struct vmsa_session *session,
 /* Empties every entry, and changes nothing else. */
 void vmsa_session_invalidate_all(struct vmsa_session *session);
 
+/*
+ * Starts a walk a descriptor at a time. The pool and ee of the regime have no
+ * say: descriptors are numbers here. The walk may have ended at once: refused,
+ * or with a fault before any descriptor is read. A walk reads as follows.
+ *
+ *     vmsa_stepwise_start(&regime, &access, &walk);
+ *     while (!walk.ended) {
+ *         if (read_descriptor(walk.address, &value))
+ *             vmsa_stepwise_value(&walk, value);
+ *         else
+ *             vmsa_stepwise_unreachable(&walk);
+ *     }
+ *     if (walk.update)
+ *         exchange(walk.address, walk.expected, walk.value);
+ *
+ * It ends after at most four offers, whatever is offered. Make the update
+ * before the answer is used; where others may write the tables, by
+ * compare-and-swap, and if that fails walk again.
+ */
+void vmsa_stepwise_start(const struct vmsa_regime *regime,
+                         const struct vmsa_access *access,
+                         struct vmsa_stepwise *walk);
+
+/*
+ * Offers the value of the descriptor at walk->address. Gives 0, or 12 where
+ * the walk has ended, which then stays as it was.
+ */
+uint8_t vmsa_stepwise_value(struct vmsa_stepwise *walk, uint64_t value);
+
+/* The same, where no descriptor can be read there. */
+uint8_t vmsa_stepwise_unreachable(struct vmsa_stepwise *walk);
+
 /* What a number of enum vmsa_refusal says. */
 static inline const char *vmsa_refusal_text(unsigned number)
 {
@@ -338,6 +400,8 @@ static inline const char *vmsa_refusal_text(unsigned number)
         return "the descriptor is unaligned or not in the pool";
     case VMSA_REFUSED_NO_REGIME:
         return "the session has no regime";
+    case VMSA_REFUSED_WALK_ENDED:
+        return "the walk has ended";
     case VMSA_REFUSED_DIRTY_STATE:
         return "HD is on and HA is off";
     default:
@@ -438,6 +502,18 @@ VMSA_NEXT(session, regime, entries, 64);
 VMSA_NEXT(session, entries, set, 1600);
 VMSA_NEXT(session, set, spare, 1601);
 VMSA_LAST(session, spare, 1608);
+
+VMSA_NEXT(stepwise, regime, access, 64);
+VMSA_NEXT(stepwise, access, answer, 88);
+VMSA_NEXT(stepwise, answer, address, 112);
+VMSA_NEXT(stepwise, address, expected, 120);
+VMSA_NEXT(stepwise, expected, value, 128);
+VMSA_NEXT(stepwise, value, ended, 136);
+VMSA_NEXT(stepwise, ended, update, 137);
+VMSA_NEXT(stepwise, update, left, 138);
+VMSA_NEXT(stepwise, left, tables, 139);
+VMSA_NEXT(stepwise, tables, spare, 140);
+VMSA_LAST(stepwise, spare, 144);
 
 #undef VMSA_ASSERT
 #undef VMSA_END

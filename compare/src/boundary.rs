@@ -9,6 +9,7 @@
 //! only writes.
 
 mod session;
+mod stepwise;
 
 use crate::geometry::Granule;
 use crate::random::Random;
@@ -16,6 +17,7 @@ use crate::reference::{Access, Answer, Kind, Pool, Range, Regime};
 pub use session::{CEntry, CSession, LibrarySession, Reply, SessionFunctions, Subject, SUM_BITS};
 use std::mem::{self, offset_of, size_of};
 use std::{array, slice};
+pub use stepwise::{CStepwise, LibraryStepwise, Stepper, StepwiseFunctions};
 
 #[repr(C)]
 #[derive(Clone, Copy, Debug)]
@@ -115,6 +117,43 @@ impl CRegime {
     }
 }
 
+impl CRegime {
+    /// The same numbers as they are spelled, and nothing in the spare bytes.
+    pub fn kept(&self) -> CRegime {
+        CRegime {
+            spare: [0; 4],
+            ..*self
+        }
+    }
+}
+
+impl CAccess {
+    /// As for a regime.
+    pub fn kept(&self) -> CAccess {
+        CAccess {
+            spare: [0; 6],
+            ..*self
+        }
+    }
+
+    /// The access that these numbers say.
+    pub fn read(&self) -> Access {
+        Access {
+            address: self.address,
+            size: self.size,
+            el0: self.el0 != 0,
+            kind: match self.kind {
+                0 => Kind::Read,
+                1 => Kind::Write,
+                3 => Kind::Fetch,
+                4 => Kind::ProbeRead,
+                5 => Kind::ProbeWrite,
+                _ => Kind::Update,
+            },
+        }
+    }
+}
+
 const _: () = {
     assert!(size_of::<CRegime>() == 64);
     assert!(offset_of!(CRegime, granule) == 59);
@@ -140,6 +179,19 @@ fn bytes<T: Plain>(of: &T) -> &[u8] {
 fn bytes_mut<T: Plain>(of: &mut T) -> &mut [u8] {
     // SAFETY: as above, and integers take any bytes.
     unsafe { slice::from_raw_parts_mut((of as *mut T).cast(), size_of::<T>()) }
+}
+
+/// The first byte in which a struct is not as it should be.
+fn difference<T: Plain>(name: &str, is: &T, wanted: &T) -> Option<String> {
+    let (is, wanted) = (bytes(is), bytes(wanted));
+    if is == wanted {
+        return None;
+    }
+    let at = is.iter().zip(wanted).position(|(a, b)| a != b)?;
+    let (is, should) = (is[at], wanted[at]);
+    Some(format!(
+        "byte {at} of the {name} is {is:#04x}, and should be {should:#04x}"
+    ))
 }
 
 /// A struct of random bytes.

@@ -1,11 +1,12 @@
 //! Puts each case to both walkers and holds their answers and memories
 //! against each other. The first difference ends the run with status 1.
 
-use compare::boundary::{plain_answer, CAnswer, Library};
+use compare::boundary::{plain_answer, CAnswer, Library, LibraryStepwise};
 use compare::cases::{Case, Runner};
 use compare::reference::{
     self, offset_in_memory, read_descriptor, write_descriptor, Regime, Walk, MEMORY_LIMIT,
 };
+use compare::stepwise::{self, Trial};
 use compare::tally::Tally;
 use compare::{bare, promises, reversed};
 
@@ -19,18 +20,20 @@ pub struct Comparison {
     trace: bool,
     pub number: u64,
     pub tally: Tally,
+    pub stepwise: Trial<LibraryStepwise>,
     expected: Vec<u8>,
     arena: Vec<u8>,
 }
 
 impl Comparison {
-    pub fn new(library: Library, seed: u64, trace: bool) -> Self {
+    pub fn new(library: Library, stepwise: LibraryStepwise, seed: u64, trace: bool) -> Self {
         Comparison {
             library,
             seed,
             trace,
             number: 0,
             tally: Tally::default(),
+            stepwise: Trial::new(stepwise, seed),
             expected: Vec::with_capacity(MEMORY_LIMIT + 1),
             arena: vec![MARGIN_BYTE; MEMORY_LIMIT + 1 + 3 * MARGIN],
         }
@@ -84,6 +87,17 @@ impl Comparison {
             }
             Ok(_) => None,
         }
+    }
+
+    /// Walks once more a descriptor at a time, where that is due; what is wrong
+    /// with that.
+    fn wrong_stepwise(&mut self, case: &Case, before: &mut [u8], walk: &Walk) -> Option<String> {
+        if !stepwise::is_due(self.number) {
+            return None;
+        }
+        let held = self.stepwise.case(case, before, &self.expected, walk);
+        held.err()
+            .map(|why| format!("a descriptor at a time: {why}"))
     }
 
     /// Whether nobody has written beside the memory.
@@ -188,7 +202,9 @@ impl Runner for Comparison {
             self.fail(case, memory, after, &walk, &answer, &why);
         }
         let bare = self.wrong_bare(case, start, memory, &walk, &answer);
-        let wrong = bare.or_else(|| self.wrong_reversed(case, start, memory.len(), &answer));
+        let wrong = bare
+            .or_else(|| self.wrong_reversed(case, start, memory.len(), &answer))
+            .or_else(|| self.wrong_stepwise(case, memory, &walk));
         if let Some(words) = wrong {
             let after = &self.arena[start..end];
             self.fail(case, memory, after, &walk, &answer, &[words]);

@@ -18,6 +18,7 @@ pub mod reversed;
 pub mod rule3;
 pub mod scripts;
 pub mod session;
+pub mod stepwise;
 pub mod tally;
 pub mod vectors;
 

@@ -1,9 +1,11 @@
 //! Compares the library with a second program.
 //!
-//! `compare [seed] [--trace]`: its walk over many made cases, then its session
-//! over many made scripts, and from any bytes. The seed is decimal or 0x hexadecimal. With
-//! `--trace` each case and each call is told on standard error before the
-//! library is called, so that a crash can be placed.
+//! `compare [seed] [--trace]`: its walk over many made cases, and a descriptor
+//! at a time over some of them, over readers that are no pools and from any
+//! bytes; then its session over many made scripts, and from any bytes. The seed
+//! is decimal or 0x hexadecimal. With `--trace` each case and each call is told
+//! on standard error before the library is called, so that a crash can be
+//! placed.
 //!
 //! `compare vectors FILE..`: library and second program on the cases of files,
 //! which also say what should come of them (`vectors/README.md`).
@@ -14,9 +16,11 @@
 mod comparison;
 
 use compare::boundary::{
-    CAccess, CAnswer, CRegime, CSession, Library, LibrarySession, SessionFunctions, Spelling,
+    CAccess, CAnswer, CRegime, CSession, CStepwise, Library, LibrarySession, LibraryStepwise,
+    SessionFunctions, Spelling, Stepper, StepwiseFunctions,
 };
 use compare::reference::{Access, Regime};
+use compare::stepwise::Trial;
 use compare::vectors::{File, Party};
 use compare::{cases, scripts};
 use comparison::Comparison;
@@ -58,6 +62,9 @@ extern "C" {
         value: u64,
     ) -> u8;
     fn vmsa_session_invalidate_all(session: *mut CSession);
+    fn vmsa_stepwise_start(regime: *const CRegime, access: *const CAccess, walk: *mut CStepwise);
+    fn vmsa_stepwise_value(walk: *mut CStepwise, value: u64) -> u8;
+    fn vmsa_stepwise_unreachable(walk: *mut CStepwise) -> u8;
 }
 
 const SESSION: SessionFunctions = SessionFunctions {
@@ -67,6 +74,19 @@ const SESSION: SessionFunctions = SessionFunctions {
     store: vmsa_session_store,
     invalidate_all: vmsa_session_invalidate_all,
 };
+
+const STEPWISE: StepwiseFunctions = StepwiseFunctions {
+    start: vmsa_stepwise_start,
+    value: vmsa_stepwise_value,
+    unreachable: vmsa_stepwise_unreachable,
+};
+
+/// The library's walk a descriptor at a time.
+fn stepwise() -> LibraryStepwise {
+    // SAFETY: these are the functions under test; that they keep to the
+    // structs they are lent is what they promise.
+    unsafe { LibraryStepwise::new(STEPWISE) }
+}
 
 fn parse_seed(text: &str) -> Option<u64> {
     match text.strip_prefix("0x") {
@@ -80,12 +100,26 @@ fn compare_walks(seed: u64, trace: bool) -> bool {
     // SAFETY: this is the function under test; that it keeps to its lent
     // memory is what it promises, and the margins look after that.
     let library = unsafe { Library::new(vmsa_walk) };
-    let mut comparison = Comparison::new(library, seed, trace);
+    let mut comparison = Comparison::new(library, stepwise(), seed, trace);
     cases::run_all(seed, &mut comparison);
     if !comparison.tally.report() {
         return false;
     }
     println!("compared {} cases, 0 differences", comparison.number);
+    compare_stepwise(seed, trace, comparison.stepwise)
+}
+
+/// The walk a descriptor at a time, which the cases have begun with.
+fn compare_stepwise(seed: u64, trace: bool, mut trial: Trial<LibraryStepwise>) -> bool {
+    if let Err(difference) = trial.run_all(trace) {
+        println!("with seed {seed}: {difference}");
+        return false;
+    }
+    if !trial.tally.report() {
+        return false;
+    }
+    let (walks, foreign) = (trial.tally.walks(), trial.tally.foreign());
+    println!("compared {walks} stepwise walks and {foreign} of any bytes, 0 differences");
     true
 }
 
@@ -128,6 +162,10 @@ impl Party for Linked {
     fn fresh(&self, noise: u64) -> Result<LibrarySession, String> {
         // SAFETY: as above.
         unsafe { LibrarySession::fresh(SESSION, noise) }
+    }
+
+    fn stepper(&self) -> impl Stepper {
+        stepwise()
     }
 }
 

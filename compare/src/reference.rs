@@ -1,13 +1,14 @@
 //! The second walker: stage 1, EL1&0.
 //!
 //! It was written from document 01 of the customer; what the customer's
-//! requests change (so far) from these and from
+//! requests change (so far) from these and from
 //! docs/RULES.md. It shares nothing with the library or its bindings. The
 //! places cited are those of docs/RULES.md, which says the same in numbered
 //! sections.
 //!
-//! One loop goes down the levels and keeps the list of descriptor addresses;
-//! sums that could pass 2^64 are made in 128 bits.
+//! One loop goes down the levels over any reader of descriptors and keeps the
+//! list of their addresses; the plain walk's reader is the pool. Sums that
+//! could pass 2^64 are made in 128 bits.
 
 use crate::geometry::{Granule, LAST_LEVEL};
 use crate::refusals;
@@ -246,13 +247,14 @@ pub fn leaf_attribute(regime: &Regime, descriptor: u64) -> u8 {
 }
 
 /// Offset in memory of the descriptor at a physical address, where all its
-/// 8 bytes are in the pool (RULES 2.3).
+/// 8 bytes are in the pool (RULES 2.3). There is none that a number cannot
+/// hold, as of a pool to which row 1 applies.
 pub fn offset_in_memory(pool: &Pool, address: u64) -> Option<usize> {
     let first = u128::from(pool.address);
     let end = first + pool.length as u128;
     let wanted = u128::from(address);
     if wanted >= first && wanted + 8 <= end {
-        Some(pool.start + (wanted - first) as usize)
+        pool.start.checked_add((wanted - first) as usize)
     } else {
         None
     }
@@ -282,7 +284,22 @@ pub fn write_descriptor(memory: &mut [u8], offset: usize, descriptor: u64, ee: b
     memory[offset..offset + 8].copy_from_slice(&descriptor_bytes(descriptor, ee));
 }
 
+/// What the pool holds: for an address the descriptor there, or none where it
+/// is not wholly in the pool, and in the memory.
+pub fn pool_reader<'a>(memory: &'a [u8], regime: &'a Regime) -> impl Fn(u64) -> Option<u64> + 'a {
+    move |address| {
+        let offset = offset_in_memory(&regime.pool, address)?;
+        let inside = offset.checked_add(8)? <= memory.len();
+        inside.then(|| read_descriptor(memory, offset, regime.ee))
+    }
+}
+
 // ----------------------------------------------------------------- the walk
+
+/// The range that an address picks, whether or not it lies in it.
+pub fn range_at(regime: &Regime, address: u64) -> &Range {
+    &regime.ranges[usize::from(bit(address, 55))]
+}
 
 /// RULES 6.1: the range of an address. There is none under a regime that only
 /// a session of any bytes has (RULES 10.5).
@@ -291,10 +308,13 @@ fn range_of(regime: &Regime, address: u64) -> Result<&Range, Stop> {
     if refusals::finds_no_table(regime) {
         return stop(FaultKind::Translation);
     }
-    let upper = bit(address, 55);
-    let range = &regime.ranges[usize::from(upper)];
+    let range = range_at(regime, address);
     let top = address >> (64 - u32::from(range.t));
-    let wanted = if upper { (1 << range.t) - 1 } else { 0 };
+    let wanted = if bit(address, 55) {
+        (1 << range.t) - 1
+    } else {
+        0
+    };
     if range.disabled || top != wanted {
         return stop(FaultKind::Translation);
     }
@@ -323,60 +343,98 @@ impl Found {
     }
 }
 
-/// RULES 6.3 to 6.5: what the descriptor at a physical address is, the
-/// descriptor itself, and its offset in the memory.
-fn read_entry(
-    memory: &[u8],
-    regime: &Regime,
-    level: u8,
-    entry: u64,
-) -> Result<(Found, u64, usize), FaultKind> {
-    let offset = offset_in_memory(&regime.pool, entry).ok_or(FaultKind::WalkAbort)?;
-    let descriptor = read_descriptor(memory, offset, regime.ee);
+/// A descriptor that is to be read: where it stands, its level, and bits 62..59
+/// of the tables on the way to it, or-ed.
+#[derive(Clone, Copy, Debug, PartialEq, Eq)]
+pub struct Wanted {
+    pub entry: u64,
+    pub level: u8,
+    /// Whether or not they count: HPD is asked at the leaf. No answer tells the
+    /// difference, but the struct of a walk a descriptor at a time does. RULES
+    /// 6.11 with 15.10 can be read so that these are none where HPD is on; this
+    /// reading was chosen after the library was seen to differ from that one, so
+    /// on this point the second program is not independent of it.
+    pub bits: u64,
+}
+
+/// What a descriptor leads to.
+#[derive(Clone, Copy, Debug, PartialEq, Eq)]
+pub enum Next {
+    Descriptor(Wanted),
+    Leaf(Leaf),
+}
+
+/// RULES 6.1 and 6.2: the first descriptor.
+pub fn first_wanted(regime: &Regime, address: u64) -> Result<Wanted, Stop> {
+    let range = range_of(regime, address)?;
+    let level = regime.granule.first_level(range.t);
+    Ok(Wanted {
+        entry: entry_of(regime, range.root, level, address),
+        level,
+        bits: 0,
+    })
+}
+
+/// RULES 6.2: where an address has its descriptor in a table.
+fn entry_of(regime: &Regime, table: u64, level: u8, address: u64) -> u64 {
+    let range = range_at(regime, address);
+    table + 8 * regime.granule.index(range.t, level, address)
+}
+
+/// RULES 6.3 to 6.5: what a descriptor is, if it can be read.
+fn take(regime: &Regime, level: u8, read: Option<u64>) -> Result<(Found, u64), FaultKind> {
+    let descriptor = read.ok_or(FaultKind::WalkAbort)?;
     let limit = output_limit(regime.output_code);
     match Found::of(regime.granule, level, descriptor) {
         Found::Nothing => Err(FaultKind::Translation),
         Found::Table(address) | Found::Leaf(address) if address >= limit => {
             Err(FaultKind::AddressSize)
         }
-        found => Ok((found, descriptor, offset)),
+        found => Ok((found, descriptor)),
     }
 }
 
+/// RULES 6.3 to 6.5 and 6.11: from the descriptor that is wanted, as it was
+/// read, to the next one or to the leaf.
+pub fn go_on(
+    regime: &Regime,
+    address: u64,
+    wanted: &Wanted,
+    read: Option<u64>,
+) -> Result<Next, Stop> {
+    let level = wanted.level;
+    let taken = take(regime, level, read);
+    let (found, descriptor) = taken.map_err(|kind| Stop { kind, level })?;
+    let Found::Table(table) = found else {
+        let hpd = range_at(regime, address).hpd;
+        return Ok(Next::Leaf(Leaf {
+            descriptor,
+            level,
+            taken: if hpd { 0 } else { wanted.bits },
+        }));
+    };
+    Ok(Next::Descriptor(Wanted {
+        entry: entry_of(regime, table, level + 1, address),
+        level: level + 1,
+        bits: wanted.bits | descriptor & TAKING_FIELD,
+    }))
+}
+
 /// RULES 6.1 to 6.5: from an address to its leaf. Each descriptor address is
-/// put on the list before the pool is asked for it.
+/// put on the list before the reader is asked for it.
 pub fn find_leaf(
-    memory: &[u8],
+    mut reader: impl FnMut(u64) -> Option<u64>,
     regime: &Regime,
     address: u64,
     visited: &mut Vec<u64>,
-) -> Result<(Leaf, usize), Stop> {
-    let range = range_of(regime, address)?;
-    let granule = regime.granule;
-
-    // 6.2.
-    let mut level = granule.first_level(range.t);
-    let mut table = range.root;
-    let mut taken = 0;
+) -> Result<Leaf, Stop> {
+    let mut wanted = first_wanted(regime, address)?;
     loop {
-        let entry = table + 8 * granule.index(range.t, level, address);
-        visited.push(entry);
-        let read = read_entry(memory, regime, level, entry);
-        let (found, descriptor, offset) = read.map_err(|kind| Stop { kind, level })?;
-        let Found::Table(next) = found else {
-            let leaf = Leaf {
-                descriptor,
-                level,
-                taken,
-            };
-            return Ok((leaf, offset));
-        };
-        // 6.11.
-        if !range.hpd {
-            taken |= descriptor & TAKING_FIELD;
+        visited.push(wanted.entry);
+        match go_on(regime, address, &wanted, reader(wanted.entry))? {
+            Next::Descriptor(next) => wanted = next,
+            Next::Leaf(leaf) => return Ok(leaf),
         }
-        table = next;
-        level += 1;
     }
 }
 
@@ -467,60 +525,102 @@ pub fn settle(regime: &Regime, access: &Access, leaf: &Leaf, reads: u8) -> (Answ
     (Answer::Success(success), after)
 }
 
+/// What an access answers that came to a leaf or to a fault before one, and
+/// the leaf's descriptor afterwards.
+pub fn conclude(
+    regime: &Regime,
+    access: &Access,
+    found: &Result<Leaf, Stop>,
+    reads: u8,
+) -> (Answer, Option<u64>) {
+    match found {
+        Ok(leaf) => {
+            let (answer, after) = settle(regime, access, leaf, reads);
+            (answer, Some(after))
+        }
+        Err(stop) => {
+            let fault = Fault {
+                stop: *stop,
+                rememberable: false,
+                reads,
+            };
+            (Answer::Fault(fault), None)
+        }
+    }
+}
+
+/// A walk over a reader. It makes no marks.
+#[derive(Clone, Debug)]
+pub struct Course {
+    pub answer: Answer,
+    /// Physical addresses of the descriptors asked for, in order.
+    pub visited: Vec<u64>,
+    /// The leaf as found, once one was reached.
+    pub leaf: Option<Leaf>,
+    /// Its descriptor with the marks that are due.
+    pub after: Option<u64>,
+}
+
+impl Course {
+    pub fn refused(number: u8) -> Course {
+        Course {
+            answer: Answer::Refused(number),
+            visited: Vec::new(),
+            leaf: None,
+            after: None,
+        }
+    }
+}
+
+/// The steps of a walk that is not refused, over any reader.
+pub fn steps(reader: impl FnMut(u64) -> Option<u64>, regime: &Regime, access: &Access) -> Course {
+    let mut visited = Vec::with_capacity(4);
+    let found = find_leaf(reader, regime, access.address, &mut visited);
+    let (answer, after) = conclude(regime, access, &found, visited.len() as u8);
+    Course {
+        answer,
+        visited,
+        leaf: found.ok(),
+        after,
+    }
+}
+
 /// The plain walk: its refusals, its steps, its marks.
 pub fn walk(memory: &mut [u8], regime: &Regime, access: &Access) -> Walk {
     match refusals::of_walk(memory.len(), regime, access) {
-        Some(number) => refused(number),
+        Some(number) => in_pool(regime, Course::refused(number)),
         None => walk_on(memory, regime, access),
     }
 }
 
 /// The plain walk over a memory that stays as it is: all but its marks.
 pub fn look(memory: &[u8], regime: &Regime, access: &Access) -> Walk {
-    match refusals::of_walk(memory.len(), regime, access) {
-        Some(number) => refused(number),
-        None => steps(memory, regime, access).0,
-    }
-}
-
-fn refused(number: u8) -> Walk {
-    Walk {
-        answer: Answer::Refused(number),
-        visited: Vec::new(),
-        leaf: None,
-    }
+    let course = match refusals::of_walk(memory.len(), regime, access) {
+        Some(number) => Course::refused(number),
+        None => steps(pool_reader(memory, regime), regime, access),
+    };
+    in_pool(regime, course)
 }
 
 /// The steps and marks of a walk that is not refused. Rows 1, 6 and 7 must not
 /// apply; the others may, in a session of any bytes (RULES 10.5).
 pub fn walk_on(memory: &mut [u8], regime: &Regime, access: &Access) -> Walk {
-    let (walk, after) = steps(memory, regime, access);
-    if let Some((_, offset)) = walk.leaf {
+    let course = steps(pool_reader(memory, regime), regime, access);
+    let after = course.after;
+    let walk = in_pool(regime, course);
+    if let (Some((_, offset)), Some(after)) = (walk.leaf, after) {
         write_descriptor(memory, offset, after, regime.ee);
     }
     walk
 }
 
-/// The same without the marks, and the leaf's descriptor as they leave it.
-fn steps(memory: &[u8], regime: &Regime, access: &Access) -> (Walk, u64) {
-    let mut visited = Vec::with_capacity(4);
-    let found = find_leaf(memory, regime, access.address, &mut visited);
-    let reads = visited.len() as u8;
-    let (answer, after) = match found {
-        Ok((leaf, _)) => settle(regime, access, &leaf, reads),
-        Err(stop) => {
-            let fault = Fault {
-                stop,
-                rememberable: false,
-                reads,
-            };
-            (Answer::Fault(fault), 0)
-        }
-    };
-    let walk = Walk {
-        answer,
-        visited,
-        leaf: found.ok(),
-    };
-    (walk, after)
+/// A walk over the pool, with its leaf's place in the memory.
+fn in_pool(regime: &Regime, course: Course) -> Walk {
+    let last = course.visited.last();
+    let offset = last.and_then(|&entry| offset_in_memory(&regime.pool, entry));
+    Walk {
+        answer: course.answer,
+        leaf: course.leaf.zip(offset),
+        visited: course.visited,
+    }
 }

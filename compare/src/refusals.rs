@@ -11,6 +11,9 @@ pub const WALK: &[u8] = &[1, 2, 3, 4, 5, 13, 6, 7];
 pub const SET_REGIME: &[u8] = &[1, 2, 3, 4, 5, 13];
 pub const ACCESS: &[u8] = &[9, 1, 6, 7];
 pub const STORE: &[u8] = &[9, 1, 8];
+/// The start of a walk a descriptor at a time; and an offer to one that has
+/// not ended (RULES 16.6).
+pub const STEPWISE: &[u8] = &[3, 4, 5, 13, 6, 7];
 
 /// Whether a call looks at one of its rows before another.
 pub fn is_before(order: &[u8], row: u8, other: u8) -> bool {
@@ -116,6 +119,15 @@ pub fn of_set_regime(memory_length: usize, regime: &Regime) -> Option<u8> {
 /// All rows that apply to a set regime; the first is its refusal.
 pub fn all_of_set_regime(memory_length: usize, regime: &Regime) -> impl Iterator<Item = u8> + '_ {
     Asked::set_regime(memory_length, regime).all_of(SET_REGIME)
+}
+
+/// All rows that apply to a walk a descriptor at a time; the first is its
+/// refusal. There is no memory, and the rows that look at one are not asked.
+pub fn all_of_stepwise<'a>(
+    regime: &'a Regime,
+    access: &'a Access,
+) -> impl Iterator<Item = u8> + 'a {
+    Asked::walk(0, regime, access).all_of(STEPWISE)
 }
 
 /// In a session, by the regime that it has.

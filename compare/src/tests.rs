@@ -8,6 +8,7 @@ mod refusals;
 mod rule3;
 mod session;
 mod spare;
+mod stepwise;
 mod tables;
 mod vectors;
 
@@ -15,6 +16,7 @@ use crate::boundary::{plain_answer, CAnswer};
 use crate::cases::{run_all, Case, Runner};
 use crate::geometry::Granule;
 use crate::reference::{self, walk, Access, Answer, Kind, Pool, Range, Regime, Success, Walk};
+use crate::stepwise::{Second, Trial};
 use crate::tally::Tally;
 use crate::{bare, promises, reversed};
 
@@ -275,6 +277,8 @@ struct Survey {
     count: u64,
     /// How many were walked in the other byte order too.
     reversed: u64,
+    /// Those that are walked a descriptor at a time too.
+    stepwise: Trial<Second>,
     /// The memory before a case; then also for the walks without the tables'
     /// bits and in the other order.
     before: Vec<u8>,
@@ -314,6 +318,10 @@ impl Runner for Survey {
         )
         .unwrap_or_else(|broken| panic!("case {}: {broken}: {answer:?}", self.count));
         self.tally.note(case, before, &walk, &answer);
+        if crate::stepwise::is_due(self.count) {
+            let held = self.stepwise.case(case, &mut self.before, memory, &walk);
+            held.unwrap_or_else(|why| panic!("case {}: {why}", self.count));
+        }
 
         let (regime, access) = (case.regime, case.access);
         let again = |lent: &mut [u8]| plain_answer(&reference::walk(lent, regime, access).answer);
@@ -329,9 +337,15 @@ fn cases_meet_all_that_can_occur() {
         tally: Tally::default(),
         count: 0,
         reversed: 0,
+        stepwise: Trial::new(Second, 1),
         before: Vec::new(),
     };
     run_all(1, &mut survey);
+    survey.stepwise.run_all(false).unwrap();
+    assert_eq!(survey.stepwise.tally.missing(), []);
+    assert_eq!(survey.stepwise.tally.strangers(), []);
+    let walks = survey.stepwise.tally.walks();
+    assert!(walks >= 60_000, "{walks} walks a descriptor at a time");
     assert_eq!(survey.tally.missing(), []);
     assert_eq!(survey.tally.strangers(), []);
     assert!(survey.count >= 200_000, "{} cases", survey.count);

@@ -10,7 +10,7 @@ mod text;
 
 pub use hold::{hold, Difference};
 pub use party::{Party, Second};
-pub use reader::{read, Calls, Case, Run, Step};
+pub use reader::{read, Calls, Case, Offers, Run, Step};
 use std::fmt::{self, Display, Formatter};
 use std::fs;
 pub use text::Problem;

@@ -103,7 +103,8 @@ pub enum FaultKind {
     /// The leaf, or a table on the way to it, does not permit the access; or a
     /// fetch from Device memory.
     Permission,
-    /// External abort on the walk: a descriptor not wholly in the pool.
+    /// External abort on the walk: a descriptor not wholly in the pool, or not
+    /// reachable.
     ExternalAbort,
     /// An unaligned access to Device memory.
     Alignment,
@@ -241,7 +242,7 @@ impl From<Refusal> for Stop {
 }
 
 /// For what the library never answers.
-const OUTSIDE: &str = "the linked library does not have this crate's interface";
+pub(crate) const OUTSIDE: &str = "the linked library does not have this crate's interface";
 
 impl From<ffi::Answer> for Answer {
     fn from(words: ffi::Answer) -> Self {

@@ -15,9 +15,14 @@ type Checked = Result<(), Problem>;
 
 /// What a set regime checks, in its order.
 pub(crate) fn of_regime(regime: &Regime, memory: usize) -> Checked {
+    memory_and_pool(regime.granule, &regime.pool, memory)?;
+    pool_address(regime.granule, &regime.pool)?;
+    of_start(regime)
+}
+
+/// What the start of a stepwise walk checks of a regime, in its order.
+pub(crate) fn of_start(regime: &Regime) -> Checked {
     let granule = regime.granule;
-    memory_and_pool(granule, &regime.pool, memory)?;
-    pool_address(granule, &regime.pool)?;
     sizes(0, regime.range0.tsz)?;
     sizes(1, regime.range1.tsz)?;
     root(granule, 0, regime.range0.root)?;

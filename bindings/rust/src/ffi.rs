@@ -86,6 +86,22 @@ pub struct Session {
     pub spare: [u8; 7],
 }
 
+#[repr(C)]
+#[derive(Clone, Copy, Debug, PartialEq, Eq)]
+pub struct Stepwise {
+    pub regime: Regime,
+    pub access: Access,
+    pub answer: Answer,
+    pub address: u64,
+    pub expected: u64,
+    pub value: u64,
+    pub ended: u8,
+    pub update: u8,
+    pub left: u8,
+    pub tables: u8,
+    pub spare: [u8; 4],
+}
+
 /// The size of a field.
 const fn width<S, F>(_: fn(&S) -> &F) -> usize {
     size_of::<F>()
@@ -122,6 +138,11 @@ layout!(
     page: 0, value: 8, left: 16, held: 17, tables: 18, spare: 19
 );
 layout!(Session: 1608, regime: 0, entries: 64, set: 1600, spare: 1601);
+layout!(
+    Stepwise: 144,
+    regime: 0, access: 64, answer: 88, address: 112, expected: 120, value: 128,
+    ended: 136, update: 137, left: 138, tables: 139, spare: 140
+);
 
 extern "C" {
     fn vmsa_version() -> u32;
@@ -154,13 +175,16 @@ extern "C" {
         value: u64,
     ) -> u8;
     fn vmsa_session_invalidate_all(session: *mut Session);
+    fn vmsa_stepwise_start(regime: *const Regime, access: *const Access, walk: *mut Stepwise);
+    fn vmsa_stepwise_value(walk: *mut Stepwise, value: u64) -> u8;
+    fn vmsa_stepwise_unreachable(walk: *mut Stepwise) -> u8;
 }
 
 // What makes each call below sound: the structs have the library's layout (the
 // asserts above), a slice is a pointer and its length, and the library takes
 // any value, stays inside the slice and the structs, writes none that is lent
-// as `*const`, and keeps no pointer. An answer, and the fresh session, it only
-// writes, and every byte of it; any bytes are one.
+// as `*const`, and keeps no pointer. An answer, the fresh session and the start
+// of a stepwise walk it only writes, and every byte of it; any bytes are one.
 
 pub fn version() -> u32 {
     // SAFETY: takes nothing.
@@ -224,4 +248,24 @@ pub fn session_store(session: &mut Session, memory: &mut [u8], address: u64, val
 pub fn session_invalidate_all(session: &mut Session) {
     // SAFETY: the session is lent to this call alone.
     unsafe { vmsa_session_invalidate_all(session) }
+}
+
+pub fn stepwise_start(regime: &Regime, access: &Access) -> Stepwise {
+    let mut walk = MaybeUninit::uninit();
+    // SAFETY: the call reads nothing of the walk and writes all of it, so that
+    // it is initialised afterwards.
+    unsafe {
+        vmsa_stepwise_start(regime, access, walk.as_mut_ptr());
+        walk.assume_init()
+    }
+}
+
+pub fn stepwise_value(walk: &mut Stepwise, value: u64) -> u8 {
+    // SAFETY: the walk is lent to this call alone.
+    unsafe { vmsa_stepwise_value(walk, value) }
+}
+
+pub fn stepwise_unreachable(walk: &mut Stepwise) -> u8 {
+    // SAFETY: the walk is lent to this call alone.
+    unsafe { vmsa_stepwise_unreachable(walk) }
 }

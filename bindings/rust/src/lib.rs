@@ -3,7 +3,8 @@
 //! of output.
 //!
 //! A device that reads or writes guest memory asks [`walk`], or a [`Session`]
-//! that holds translations, for the physical address. The walk obeys the
+//! that holds translations, for the physical address; where the tables cannot
+//! be lent, a [`StepwiseWalk`](#a-descriptor-at-a-time). The walk obeys the
 //! guest's permissions, sets the Access flag and marks written pages dirty,
 //! as the hardware would, for a guest that uses none of the features
 //! [below](#what-a-guest-must-not-use). The work is done by a proved library
@@ -49,12 +50,54 @@
 //! # Ok::<(), vmsa::Stop>(())
 //! ```
 //!
+//! # A descriptor at a time
+//!
+//! Tables that lie across a slow bus, say, cannot be lent. A [`StepwiseWalk`]
+//! has no memory: it names the address of the next descriptor, and is offered
+//! the value that stands there. Where marks are due it hands out the one
+//! update, and gives the answer once that is made. The pool and EE of the
+//! regime have no say.
+//!
+//! ```
+//! use std::collections::HashMap;
+//! use vmsa::{Access, PhysAddr, Range, Regime, StepwiseWalk, VirtAddr};
+//!
+//! // The same tables, by the addresses of their descriptors.
+//! let mut tables = HashMap::from([
+//!     (0x4000_0000, 0x4000_1003),
+//!     (0x4000_1000, 0x4000_2003),
+//!     (0x4000_2010, 0x4000_3003),
+//!     (0x4000_3018, 0x0008_0000_8000_53c3),
+//! ]);
+//!
+//! let regime = Regime::new()
+//!     .range0(Range::new(PhysAddr(0x4000_0000), 16))
+//!     .ha(true)
+//!     .hd(true)
+//!     .attributes([0xff; 8]);
+//!
+//! let write = Access::write(VirtAddr(0x40_3abc), 4).el0();
+//! let ended = StepwiseWalk::start(&regime, &write).run(|address| tables.get(&address.0).copied());
+//! let answer = ended.settle(|update| {
+//!     // Nobody else writes these tables.
+//!     tables.insert(update.address.0, update.new);
+//!     true
+//! });
+//! assert_eq!(answer.unwrap()?.output, PhysAddr(0x8000_5abc));
+//! assert_eq!(tables[&0x4000_3018], 0x0008_0000_8000_5743);
+//! # Ok::<(), vmsa::Stop>(())
+//! ```
+//!
+//! [`StepwiseWalk`] shows the same by hand, step by step, and [`Ended::settle`]
+//! the update where others write the tables too.
+//!
 //! # Limits
 //!
 //! A memory has at most [`MEMORY_LIMIT`] bytes, and its pool at most
 //! [`POOL_LIMIT`]. Lend the pool, not the guest's RAM: the memory may be the
-//! pool and nothing else. What a regime or an access is refused for,
-//! [`Regime::check`] and [`Access::check`] say in words.
+//! pool and nothing else. A stepwise walk has neither, and so no such limit.
+//! What a regime or an access is refused for, [`Regime::check`],
+//! [`Regime::check_stepwise`] and [`Access::check`] say in words.
 //!
 //! # What a guest must not use
 //!
@@ -89,7 +132,7 @@
 //! guest is none of them: it writes guest memory behind Rust's back. The
 //! library marks a descriptor by a plain store and not by a compare-and-swap,
 //! so it could undo what a vCPU has just written there. A monitor whose tables
-//! lie in memory that a running vCPU can write has two ways:
+//! lie in memory that a running vCPU can write has three ways:
 //!
 //! - It stops the vCPUs for the call.
 //! - It lends a copy of the pool. A success changes at most one descriptor of
@@ -98,6 +141,10 @@
 //!   the new, not swapped, whatever [`Regime::ee`](Regime::ee()) is. Where
 //!   that fails, the session holds a leaf that the guest's tables do not have:
 //!   empty it, and ask again.
+//! - It walks a descriptor at a time, each read by an aligned load. This needs
+//!   no copy, and [`Ended::settle`] makes the compare-and-swap; nothing is held.
+//!
+//! The second of them, with a session:
 //!
 //! ```
 //! use std::sync::atomic::{AtomicU64, Ordering::SeqCst};
@@ -137,9 +184,8 @@
 //! # Ok::<(), vmsa::Stop>(())
 //! ```
 //!
-//! A walk in steps that hands out the expected and the new value of the
-//! descriptor, and so needs no copy, is planned. A [`Session`] may go from
-//! thread to thread like any other value.
+//! A [`Session`] and a [`StepwiseWalk`] may go from thread to thread like any
+//! other value.
 
 #![deny(missing_docs)]
 #![deny(unsafe_code)]
@@ -154,6 +200,7 @@ mod problem;
 mod refusal;
 mod regime;
 mod session;
+mod stepwise;
 
 pub use access::{Access, AccessKind, ExceptionLevel};
 pub use address::{PhysAddr, VirtAddr};
@@ -163,6 +210,7 @@ pub use problem::Problem;
 pub use refusal::Refusal;
 pub use regime::{OutputSize, Pool, Range, Regime};
 pub use session::Session;
+pub use stepwise::{Ended, LeafUpdate, Step, StepwiseWalk, TablesSum};
 
 /// The most bytes of a lent memory.
 pub const MEMORY_LIMIT: usize = 16_777_216;
@@ -172,7 +220,7 @@ pub const MEMORY_LIMIT: usize = 16_777_216;
 pub const POOL_LIMIT: usize = 1_048_576;
 
 /// The version of the C interface that this crate speaks.
-pub const VERSION: u32 = 9;
+pub const VERSION: u32 = 10;
 
 /// The version of the library that is linked in; to be [`VERSION`].
 pub fn version() -> u32 {

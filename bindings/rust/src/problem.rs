@@ -8,7 +8,8 @@ use crate::{Granule, PhysAddr, Refusal, VirtAddr, MEMORY_LIMIT, POOL_LIMIT};
 
 /// One cause of a refusal, with the value at fault.
 ///
-/// [`Regime::check`](crate::Regime::check) and
+/// [`Regime::check`](crate::Regime::check),
+/// [`Regime::check_stepwise`](crate::Regime::check_stepwise) and
 /// [`Access::check`](crate::Access::check) find it, and its words name the
 /// value and the limit. They stand beside the library, which decides: they are
 /// not proved, but tested to find a problem exactly where the library refuses,

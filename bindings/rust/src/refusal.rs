@@ -55,6 +55,7 @@ refusals! {
     /// | [`Session::access`](crate::Session::access) | 9, 1, 6, 7 |
     /// | [`Session::store`](crate::Session::store) | 9, 1, 8 |
     /// | [`Session::invalidate_all`](crate::Session::invalidate_all) | none |
+    /// | [`StepwiseWalk::start`](crate::StepwiseWalk::start) | 3, 4, 5, 13, 6, 7 |
     ///
     /// Most numbers stand for several causes: [`Regime::check`] and
     /// [`Access::check`] tell them apart. `docs/RULES.md`, section 5, has all
@@ -123,6 +124,11 @@ refusals! {
 
     /// 9: the session has no regime yet.
     NoRegime = 9: "the session has no regime";
+
+    /// 12: something is offered to a stepwise walk that has ended. No call of
+    /// this crate gives it, for such an offer does not compile: see
+    /// [`StepwiseWalk`](crate::StepwiseWalk).
+    WalkEnded = 12: "the walk has ended";
 
     /// 13: HD is on and HA is off, so that no page would be marked dirty.
     DirtyState = 13: "HD is on and HA is off";

@@ -198,7 +198,7 @@ impl OutputSize {
 #[derive(Clone, Copy, Debug, PartialEq, Eq, Hash)]
 #[must_use = "a setting hands the regime back"]
 pub struct Regime {
-    /// The table pool.
+    /// The table pool; a stepwise walk needs none.
     pub pool: Pool,
     /// The range of addresses whose bit 55 is 0.
     pub range0: Range,
@@ -240,7 +240,8 @@ impl Regime {
         }
     }
 
-    /// Sets the table pool.
+    /// Sets the table pool, which has no say in a
+    /// [`StepwiseWalk`](crate::StepwiseWalk).
     pub const fn pool(mut self, pool: Pool) -> Self {
         self.pool = pool;
         self
@@ -303,7 +304,8 @@ impl Regime {
     /// marks that it makes, and for the bytes that a
     /// [`store`](crate::Session::store) writes. What a monitor reads of the
     /// tables itself, to find dirty pages say, is in this order too. It has no
-    /// say in a device's data, nor in the leaves that a session holds: they are
+    /// say in a device's data, nor in the leaves that a session holds and the
+    /// values that a [`StepwiseWalk`](crate::StepwiseWalk) is offered: they are
     /// numbers.
     ///
     /// ```
@@ -420,6 +422,25 @@ impl Regime {
     /// ```
     pub fn check(&self, memory_length: usize) -> Result<(), Problem> {
         check::of_regime(self, memory_length)
+    }
+
+    /// Says in words why [`StepwiseWalk::start`](crate::StepwiseWalk::start)
+    /// would refuse the regime: as [`check`](Self::check) does, but for the
+    /// memory and the pool.
+    ///
+    /// # Errors
+    ///
+    /// The first cause that applies; [`Problem`] has the order.
+    ///
+    /// ```
+    /// use vmsa::{PhysAddr, Problem, Range, Regime};
+    ///
+    /// let regime = Regime::new().range0(Range::new(PhysAddr(0x4000_0000), 25));
+    /// assert_eq!(regime.check_stepwise(), Ok(()));
+    /// assert_eq!(regime.hd(true).check_stepwise(), Err(Problem::HdWithoutHa));
+    /// ```
+    pub fn check_stepwise(&self) -> Result<(), Problem> {
+        check::of_start(self)
     }
 }
 

@@ -1,6 +1,6 @@
-//! `Regime::check` and `Access::check` against the library: they find a
-//! problem exactly where it refuses, with the same number. At every limit, and
-//! over many random regimes and accesses; and the words.
+//! `Regime::check`, `Regime::check_stepwise` and `Access::check` against the
+//! library: they find a problem exactly where it refuses, with the same number.
+//! At every limit, and over many random regimes and accesses; and the words.
 
 mod tables;
 
@@ -9,8 +9,8 @@ use std::mem::discriminant;
 
 use tables::{read, regime, Random, POOL};
 use vmsa::{
-    walk, Access, AccessKind, Granule, PhysAddr, Pool, Problem, Refusal, Regime, Session, Stop,
-    VirtAddr, MEMORY_LIMIT, POOL_LIMIT,
+    walk, Access, AccessKind, Granule, PhysAddr, Pool, Problem, Refusal, Regime, Session,
+    StepwiseWalk, Stop, VirtAddr, MEMORY_LIMIT, POOL_LIMIT,
 };
 
 const TOP: u64 = 1 << 48;
@@ -49,6 +49,14 @@ impl Question {
             .and_then(|()| self.access.check(self.regime.granule))
             .err()
     }
+
+    /// The first problem of the start of a stepwise walk.
+    fn problem_of_start(&self) -> Option<Problem> {
+        let regime = self.regime.check_stepwise();
+        regime
+            .and_then(|()| self.access.check(self.regime.granule))
+            .err()
+    }
 }
 
 /// The library, over a memory of zeros: no descriptor is valid, and no call
@@ -75,7 +83,7 @@ impl Library {
         Self { memory, sessions }
     }
 
-    /// Holds both checks against the three calls that make them.
+    /// Holds the checks against the four calls that make them.
     fn agrees(&mut self, question: &Question) {
         let lent = &mut self.memory[..question.memory];
         let refusal = |checked: Result<(), Problem>| checked.map_err(Problem::refusal);
@@ -85,6 +93,11 @@ impl Library {
 
         let given = walk(lent, &question.regime, &question.access);
         let found = question.problem().map(Problem::refusal);
+        assert_eq!(found, given.err().and_then(Stop::refusal), "{question:?}");
+
+        let ended = StepwiseWalk::start(&question.regime, &question.access).run(|_| None);
+        let given = ended.settle(|_| panic!("no update is due")).unwrap();
+        let found = question.problem_of_start().map(Problem::refusal);
         assert_eq!(found, given.err().and_then(Stop::refusal), "{question:?}");
 
         let lent = &mut self.memory[..POOL_LIMIT];
@@ -278,6 +291,19 @@ fn words_by_the_granule() {
             let words = words.replace("BYTES", &bytes);
             assert!(problem.ends_with(&words), "{problem}, not {words}");
         }
+    }
+}
+
+#[test]
+fn a_stepwise_walk_has_no_pool() {
+    // The causes of 1 and 2 are none there, and the others are the same.
+    for (change, refusal, _) in CAUSES {
+        let question = changed(&[change]);
+        let expected = match refusal {
+            Refusal::MemoryPool | Refusal::PoolAddress => None,
+            _ => question.problem(),
+        };
+        assert_eq!(question.problem_of_start(), expected);
     }
 }
 

@@ -3,7 +3,7 @@
 mod tables;
 
 use tables::{memory, read, regime, LENGTH, POOL};
-use vmsa::{Access, PhysAddr, Range, Refusal, Regime, Session, VirtAddr};
+use vmsa::{Access, PhysAddr, Range, Refusal, Regime, Session, Step, StepwiseWalk, VirtAddr};
 
 /// What a call is made with; as it starts, none is refused.
 struct Question {
@@ -17,7 +17,8 @@ struct Question {
 type Change = fn(&mut Question);
 
 /// Each refusal with its number (`docs/RULES.md`, 5.1), and a change that makes
-/// it apply, whatever else was changed.
+/// it apply, whatever else was changed; for 12 there is none, since an offer
+/// after the end does not compile.
 const REFUSALS: &[(Refusal, u8, Change)] = &[
     (Refusal::MemoryPool, 1, |question| {
         question.lent = LENGTH - 1;
@@ -42,6 +43,7 @@ const REFUSALS: &[(Refusal, u8, Change)] = &[
         question.store = PhysAddr(POOL + LENGTH as u64);
     }),
     (Refusal::NoRegime, 9, |question| question.set = false),
+    (Refusal::WalkEnded, 12, |_| {}),
     (Refusal::DirtyState, 13, |question| {
         question.regime.ha = false;
     }),
@@ -52,7 +54,7 @@ type Call = fn(&Question) -> Option<Refusal>;
 
 /// The order in which each call checks (`docs/RULES.md`, 5.3). Which of two
 /// comes first follows from their places here, and from nothing else.
-const ORDERS: [(Call, &[Refusal]); 4] = [
+const ORDERS: [(Call, &[Refusal]); 5] = [
     (
         walk,
         &[
@@ -92,6 +94,17 @@ const ORDERS: [(Call, &[Refusal]); 4] = [
             Refusal::NoRegime,
             Refusal::MemoryPool,
             Refusal::StoreAddress,
+        ],
+    ),
+    (
+        start,
+        &[
+            Refusal::Sizes,
+            Refusal::Root,
+            Refusal::Attributes,
+            Refusal::DirtyState,
+            Refusal::AccessSize,
+            Refusal::PageCrossing,
         ],
     ),
 ];
@@ -136,6 +149,16 @@ fn access(question: &Question) -> Option<Refusal> {
 fn store(question: &Question) -> Option<Refusal> {
     let lent = &mut memory()[..question.lent];
     session(question).store(lent, question.store, 0).err()
+}
+
+fn start(question: &Question) -> Option<Refusal> {
+    match StepwiseWalk::start(&question.regime, &question.access) {
+        Step::Wants(_) => None,
+        Step::Ended(ended) => {
+            let answer = ended.settle(|_| panic!("no update is due"));
+            answer.unwrap().err().and_then(vmsa::Stop::refusal)
+        }
+    }
 }
 
 /// A question to which these refusals apply.
@@ -195,6 +218,7 @@ fn a_disabled_range_is_checked() {
             };
             assert_eq!(walk(&question), Some(refusal));
             assert_eq!(set_regime(&question), Some(refusal));
+            assert_eq!(start(&question), Some(refusal));
         }
     }
 }
@@ -209,5 +233,6 @@ fn dirty_state() {
         let expected = (hd && !ha).then_some(Refusal::DirtyState);
         assert_eq!(walk(&question), expected, "{ha}, {hd}");
         assert_eq!(set_regime(&question), expected, "{ha}, {hd}");
+        assert_eq!(start(&question), expected, "{ha}, {hd}");
     }
 }

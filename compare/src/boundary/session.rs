@@ -1,11 +1,16 @@
 //! The session: its struct, its functions, and what they must leave of it.
 
-use super::{bytes, bytes_mut, granule_of, scribbled, CAccess, CAnswer, CRegime, Plain, Spelling};
+use super::{
+    bytes_mut, difference, granule_of, scribbled, CAccess, CAnswer, CRegime, Plain, Spelling,
+};
 use crate::random::Random;
 use crate::reference::{Access, Leaf, Regime, PXN_TABLE, TAKING_FIELD};
 use crate::session::{page_of, place_of, Call, Held, Session, PLACES};
 use std::array;
 use std::mem::{offset_of, size_of};
+
+/// What the struct is called where a byte of it is wrong.
+const NAME: &str = "session";
 
 /// What a session replies to a call, in the library's form.
 #[derive(Clone, Copy, Debug, PartialEq, Eq)]
@@ -151,19 +156,6 @@ fn difference_in_meaning(session: &Session, wanted: &Session) -> Option<String> 
     ))
 }
 
-/// The first byte in which a session is not as it should be.
-fn difference(session: &CSession, wanted: &CSession) -> Option<String> {
-    let (session, wanted) = (bytes(session), bytes(wanted));
-    if session == wanted {
-        return None;
-    }
-    let at = session.iter().zip(wanted).position(|(a, b)| a != b)?;
-    let (is, should) = (session[at], wanted[at]);
-    Some(format!(
-        "byte {at} of the session is {is:#04x}, and should be {should:#04x}"
-    ))
-}
-
 /// The library's functions on a session.
 #[derive(Clone, Copy)]
 pub struct SessionFunctions {
@@ -203,7 +195,7 @@ impl LibrarySession {
         (functions.empty)(&mut session);
         (functions.empty)(&mut wanted);
         wanted.fill_idle(|| 0);
-        match difference(&session, &wanted) {
+        match difference(NAME, &session, &wanted) {
             Some(words) => Err(words),
             None => Ok(LibrarySession {
                 functions,
@@ -288,7 +280,7 @@ impl Subject for LibrarySession {
     }
 
     fn wrong_bytes(&self, call: &Call, reply: &Reply) -> Option<String> {
-        difference(&self.session, &self.wanted(call, reply))
+        difference(NAME, &self.session, &self.wanted(call, reply))
     }
 
     fn wrong_session(&self, wanted: &Session) -> Option<String> {

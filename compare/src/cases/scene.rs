@@ -50,7 +50,7 @@ pub struct Sketch {
 }
 
 impl Sketch {
-    /// A pool of a few granules inside the memory, with any output size.
+    /// A pool of a few granules that lies within the output size, which is any.
     pub fn inside(random: &mut Random, granule: Granule) -> Sketch {
         let most = if granule == Granule::Kib64 { 2 } else { 3 };
         Sketch {
@@ -114,6 +114,17 @@ pub fn draw_device(random: &mut Random) -> u8 {
 /// A byte with both halves nonzero.
 pub fn draw_normal(random: &mut Random) -> u8 {
     (random.between(1, 15) << 4 | random.between(1, 15)) as u8
+}
+
+/// Eight bytes that row 5 does not refuse.
+pub fn draw_attributes(random: &mut Random) -> [u8; 8] {
+    [(); 8].map(|()| {
+        if random.once_in(3) {
+            draw_device(random)
+        } else {
+            draw_normal(random)
+        }
+    })
 }
 
 /// HA, off once in so many times; and HD, which asks for HA and is then off
@@ -340,13 +351,7 @@ impl Scene {
         (self.regime.ha, self.regime.hd) = draw_updates(random, 2);
         self.regime.wxn = random.coin();
         self.regime.ee = random.coin();
-        for byte in &mut self.regime.attributes {
-            *byte = if random.once_in(3) {
-                draw_device(random)
-            } else {
-                draw_normal(random)
-            };
-        }
+        self.regime.attributes = draw_attributes(random);
         for range in 0..2 {
             self.regime.ranges[range] = Range {
                 root: self.draw_root(random),

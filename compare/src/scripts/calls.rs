@@ -9,8 +9,8 @@ use crate::geometry::{Granule, PHYSICAL_LIMIT};
 use crate::granules::with_granule;
 use crate::random::Random;
 use crate::reference::{
-    find_leaf, is_device, offset_in_memory, output_limit, read_descriptor, writable_clean, Access,
-    Kind, Regime, AF, AP1, AP2, DBM, POOL_LIMIT, PXN, TAKING, UXN,
+    find_leaf, is_device, offset_in_memory, output_limit, pool_reader, read_descriptor,
+    writable_clean, Access, Kind, Regime, AF, AP1, AP2, DBM, POOL_LIMIT, PXN, TAKING, UXN,
 };
 use crate::refusals::{of_set_regime, row_1, SET_REGIME};
 use crate::reversed::other_order;
@@ -772,7 +772,8 @@ fn follow(page: u64, regime: &Regime, memory: &[u8]) -> (Vec<u64>, bool) {
     let pool = &regime.pool;
     let mut visited = Vec::with_capacity(4);
     let fits = pool.start + pool.length <= memory.len();
-    let reached = fits && find_leaf(memory, regime, page, &mut visited).is_ok();
+    let reached =
+        fits && find_leaf(pool_reader(memory, regime), regime, page, &mut visited).is_ok();
     (visited, reached)
 }
 

@@ -1,9 +1,10 @@
 //! The reader of vectors: what it reads, what it takes for an error, and that
 //! differences are told. The second program stands in for the library.
 
-use crate::boundary::{CAnswer, CSession, Spelling, Subject};
+use crate::boundary::{CAnswer, CSession, Spelling, Stepper, Subject};
 use crate::reference::{Access, Regime};
 use crate::session::Session;
+use crate::stepwise;
 use crate::vectors::{File, Party, Second};
 use std::fs;
 
@@ -59,6 +60,54 @@ answer fault code=7 level=3 may=0 reads=4
 end
 ";
 
+/// A walk a descriptor at a time: P1 without a memory, P2 with one, and a
+/// refusal.
+const STEPWISE: &str = "\
+case 1 stepwise
+note P1
+regime start=1 length=2 address=3 root0=0x40000000 t0=16 disabled0=0 root1=0x40000000 t1=16 disabled1=1 code=5 ha=1 hd=1 wxn=0 attributes=ffffffffffffffff
+access 0x403abc 4 0 read
+ask 0x40000000
+feed 0x40001003
+ask 0x40001000
+feed 0x40002003
+ask 0x40002010
+feed 0x40003003
+ask 0x40003018
+feed 0x80000800053c3
+answer ok output=0x80005abc attribute=0xff shareability=3 ng=0 level=3 af=1 dirty=0 may=1 reads=4
+update 0x40003018 0x80000800053c3 0x80000800057c3
+late 3
+late unreachable
+end
+case 2 stepwise
+memory 0x3000 0
+bytes 4 40001003
+bytes 0x1004 40010003
+regime start=0 length=0x3000 address=0x40000000 root0=0x40000000 t0=16 disabled0=0 root1=0x40000000 t1=16 disabled1=1 code=5 ha=1 hd=1 wxn=0 attributes=ffffffffffffffff ee=1
+access 0x403abc 4 0 write
+ask 0x40000000
+feed 0x40001003
+ask 0x40001000
+feed 0x40010003
+ask 0x40010010
+feed unreachable
+answer fault code=22 level=2 may=0 reads=3
+late unreachable
+end
+case 3 stepwise
+memory 0x1000 0
+bytes 0x8 050400c0
+regime start=0 length=0x1000 address=0x40000000 root0=0x40000000 t0=34 disabled0=0 root1=0x40000000 t1=16 disabled1=1 code=5 ha=1 hd=1 wxn=0 attributes=ffffffffffffffff
+access 0x200000 4 1 write
+ask 0x40000008
+feed 0xc0000405
+answer ok output=0xc0000000 attribute=0xff shareability=0 ng=0 level=2 af=0 dirty=0 may=1 reads=1
+late 0
+late unreachable
+end
+";
+
 const NAME: &str = "made.txt";
 /// What is reported where no party differs.
 const SAME: &str = "made.txt: 2 cases, 11 calls, 0 differences";
@@ -99,8 +148,9 @@ fn good_cases_are_held() {
 }
 
 /// The files of the folder `vectors` by name, and the cases that each has.
-const SHIPPED: [(&str, usize); 5] = [
+const SHIPPED: [(&str, usize); 6] = [
     ("after-q02.txt", 134),
+    ("after-q04.txt", 270),
     ("after-q06.txt", 143),
     ("after-q07.txt", 141),
     ("after-q09.txt", 128),
@@ -185,6 +235,88 @@ fn the_granule_may_be_left_out() {
     for word in ["0", "1", "8", "32", "65536", "4k"] {
         let odd = format!("setting `granule`: `{word}` is no granule: 4, 16 or 64");
         refuses("start=0", &format!("granule={word} start=0"), &odd);
+    }
+}
+
+/// What is reported where no party differs over walks a descriptor at a time.
+const SAME_STEPS: &str = "made.txt: 3 cases, 16 calls, 0 differences";
+
+/// That an edit of those walks is told in a case, by these words, for each
+/// party.
+fn step_differs(old: &str, new: &str, case: u32, words: &str) {
+    assert!(STEPWISE.contains(old), "{old}");
+    let file = open(&STEPWISE.replacen(old, new, 1)).unwrap_or_else(|told| panic!("{told}"));
+    let report = file.hold(&Second);
+    assert_eq!(report.differences.len(), 2, "{new:?}: {report}");
+    let told = &report.differences[0];
+    assert!(told.contains(&format!(", case {case}:")), "{told}");
+    assert!(told.contains(words), "{new:?}: {told}");
+}
+
+#[test]
+fn walks_a_descriptor_at_a_time_are_held() {
+    let report = open(STEPWISE).unwrap().hold(&Second).to_string();
+    assert_eq!(report, SAME_STEPS);
+    let asked = "expected: ask 0x40001008";
+    step_differs("ask 0x40001000", "ask 0x40001008", 1, asked);
+    step_differs("feed 0x40001003", "feed 0x40001002", 1, "came: None");
+    let other = "expected: Some(Update";
+    step_differs("57c3\nlate", "57c7\nlate", 1, other);
+    step_differs(
+        "update 0x40003018 0x80000800053c3 0x80000800057c3\n",
+        "",
+        1,
+        "expected: None",
+    );
+    step_differs("af=1 dirty=0", "af=0 dirty=0", 1, "expected: CAnswer");
+    step_differs("code=22", "code=21", 2, "the plain walk: CAnswer");
+    // What the pool holds is another value, or none.
+    let fed = "0x40001000 is not fed with what the pool holds";
+    step_differs("bytes 0x1004 40010003", "bytes 0x1000 40010003", 2, fed);
+    step_differs(
+        "bytes 0x8 050400c0",
+        "bytes 0x8 050400c1",
+        3,
+        "0x40000008 is not fed",
+    );
+}
+
+#[test]
+fn lines_of_a_walk_a_descriptor_at_a_time_are_checked() {
+    let refuses = |old: &str, new: &str, what: &str| {
+        assert!(STEPWISE.contains(old), "{old}");
+        let told = open(&STEPWISE.replacen(old, new, 1)).err();
+        let told = told.unwrap_or_else(|| panic!("{new:?} can be read"));
+        assert!(told.ends_with(what), "{new:?}: {told}");
+    };
+    refuses(
+        "feed 0x40001003",
+        "feed none",
+        "`none` is no NUMBER below 2^64",
+    );
+    refuses("feed 0x40001003\n", "", "due is `feed`");
+    refuses("ask 0x40000000\n", "", "due is `answer`");
+    refuses("answer ok", "answer accepted", "no answer to this call");
+    refuses(
+        "update 0x40003018",
+        "update",
+        "2 words after `update`, not 3",
+    );
+    refuses("late 3\nlate unreachable\n", "", "due is `late`");
+    refuses("late 3", "late", "0 words after `late`, not 1");
+    refuses("late 3\n", "late 3\nupdate 1 2 3\n", "due is `end`");
+}
+
+/// Whatever is cut off, the rest is no file, unless whole cases are left.
+#[test]
+fn a_walk_a_descriptor_at_a_time_cut_short_is_an_error() {
+    let ends: Vec<usize> = STEPWISE
+        .match_indices("end\n")
+        .map(|end| end.0 + 4)
+        .collect();
+    for length in 1..STEPWISE.len() {
+        let whole = ends.contains(&length);
+        assert_eq!(open(&STEPWISE[..length]).is_ok(), whole, "{length} bytes");
     }
 }
 
@@ -556,6 +688,10 @@ impl<S: Slip> Party for Slips<S> {
     fn fresh(&self, _: u64) -> Result<Self, String> {
         Ok(self.clone())
     }
+
+    fn stepper(&self) -> impl Stepper {
+        stepwise::Second
+    }
 }
 
 impl<S: Slip> Subject for Slips<S> {
@@ -629,6 +765,10 @@ fn a_wrong_fresh_session_is_told() {
 
         fn fresh(&self, _: u64) -> Result<Session, String> {
             Err("byte 7 of the session".to_string())
+        }
+
+        fn stepper(&self) -> impl Stepper {
+            stepwise::Second
         }
     }
 

@@ -2,12 +2,13 @@
 //! each byte of the memory after each call, and the bytes around it.
 
 use super::party::Party;
-use super::reader::{Calls, Case, Run, Step};
-use crate::boundary::{plain_answer, CAnswer, Reply, Spelling, Subject};
+use super::reader::{Calls, Case, Offers, Run, Step};
+use crate::boundary::{plain_answer, CAnswer, CStepwise, Reply, Spelling, Stepper, Subject};
 use crate::random::Random;
-use crate::reference::{Access, Answer, Regime};
+use crate::reference::{offset_in_memory, pool_reader, write_descriptor, Access, Answer, Regime};
 use crate::scripts::Arena;
 use crate::session::Call;
+use crate::stepwise::{Update, WALK_ENDED};
 use std::fmt::Debug;
 
 /// A call that came to something else than the case says.
@@ -20,10 +21,10 @@ pub struct Difference {
 
 impl Difference {
     /// None, where there is nothing to tell.
-    fn of<C: Debug>(step: &Step<C>, why: Vec<String>) -> Option<Self> {
+    fn of(line: usize, call: &impl Debug, why: Vec<String>) -> Option<Self> {
         (!why.is_empty()).then(|| Difference {
-            line: step.line,
-            call: in_hexadecimal(&step.call),
+            line,
+            call: in_hexadecimal(call),
             why,
         })
     }
@@ -33,10 +34,11 @@ impl Difference {
 pub fn hold<P: Party>(party: &P, case: &Case) -> Vec<Difference> {
     match &case.calls {
         Calls::Walk(regime, steps) => {
-            let held = |step| hold_walk(party, &case.memory, regime, step);
+            let held = |step| hold_walk(party, case.lent(), regime, step);
             steps.iter().filter_map(held).collect()
         }
         Calls::Session(steps) => hold_session(party, case, steps).into_iter().collect(),
+        Calls::Stepwise(offers) => hold_stepwise(party, case, offers).into_iter().collect(),
     }
 }
 
@@ -54,16 +56,19 @@ fn hold_walk<P: Party>(
     if let Some(wanted) = &step.visited {
         why.extend(of_visited(wanted, &answer, visited.as_deref()));
     }
-    Difference::of(step, why)
+    Difference::of(step.line, &step.call, why)
 }
 
 /// The first difference; the calls behind it would stand on it.
 fn hold_session<P: Party>(party: &P, case: &Case, steps: &[Step<Call>]) -> Option<Difference> {
     let mut session = match party.fresh(noise(case.line)) {
         Ok(session) => session,
-        Err(words) => return Difference::of(steps.first()?, vec![words]),
+        Err(words) => {
+            let first = steps.first()?;
+            return Difference::of(first.line, &first.call, vec![words]);
+        }
     };
-    let mut wanted = case.memory.clone();
+    let mut wanted = case.lent().to_vec();
     let mut arena = Arena::new(&wanted, shift(case.line));
     steps.iter().find_map(|step| {
         let lent = arena.lend(wanted.len());
@@ -71,8 +76,99 @@ fn hold_session<P: Party>(party: &P, case: &Case, steps: &[Step<Call>]) -> Optio
         wanted = changed(std::mem::take(&mut wanted), &step.changes);
         let mut why = differences(step, &reply, &wanted, &arena);
         why.extend(session.wrong_bytes(&step.call, &reply));
-        Difference::of(step, why)
+        Difference::of(step.line, &step.call, why)
     })
+}
+
+/// A walk a descriptor at a time; and, where the case has a memory, the plain
+/// walk over it.
+fn hold_stepwise<P: Party>(party: &P, case: &Case, offers: &Offers) -> Option<Difference> {
+    let stepper = party.stepper();
+    let spelling = spelling(offers.line);
+    let mut walk = stepper.begin(&offers.regime, &offers.access, spelling);
+    let mut why = Vec::new();
+    for &(address, offered) in &offers.asked {
+        let came = (walk.ended == 0).then_some(walk.address);
+        if came != Some(address) {
+            why.push(format!("expected: ask {address:#x}"));
+            why.push(format!("came: {came:x?}"));
+            return Difference::of(offers.line, &offers.access, why);
+        }
+        let returned = stepper.offer(&mut walk, offered);
+        if returned != 0 {
+            why.push(format!("{offered:x?} is refused with {returned}"));
+        }
+    }
+    why.extend(of_end(offers, &walk));
+    why.extend(of_late(&stepper, &walk, &offers.late));
+    if let Some(memory) = &case.memory {
+        why.extend(of_plain_walk(party, memory, offers));
+    }
+    Difference::of(offers.line, &offers.access, why)
+}
+
+/// The end of a walk a descriptor at a time.
+fn of_end(offers: &Offers, walk: &CStepwise) -> Vec<String> {
+    let mut why = Vec::new();
+    if walk.ended != 1 {
+        why.push(format!("it has not ended: {}", in_hexadecimal(walk)));
+    }
+    if walk.answer != offers.answer {
+        why.push(format!("expected: {}", answer_words(&offers.answer)));
+        why.push(format!("came: {}", answer_words(&walk.answer)));
+    }
+    let update = (walk.update != 0).then_some(Update {
+        address: walk.address,
+        expected: walk.expected,
+        value: walk.value,
+    });
+    if update != offers.update {
+        why.push(format!("expected: {}", in_hexadecimal(&offers.update)));
+        why.push(format!("came: {}", in_hexadecimal(&update)));
+    }
+    why
+}
+
+/// Offers after the end.
+fn of_late(stepper: &impl Stepper, walk: &CStepwise, late: &[Option<u64>]) -> Vec<String> {
+    let mut why = Vec::new();
+    for &offered in late {
+        let mut left = *walk;
+        let returned = stepper.offer(&mut left, offered);
+        if returned != WALK_ENDED {
+            why.push(format!("after the end {offered:x?} returns {returned}"));
+        }
+        why.extend(left.difference(walk));
+    }
+    why
+}
+
+/// What is fed is what the pool holds, and the plain walk over the memory has
+/// the same answer and, once the update is written, leaves the same bytes.
+fn of_plain_walk<P: Party>(party: &P, memory: &[u8], offers: &Offers) -> Vec<String> {
+    let (regime, access) = (&offers.regime, &offers.access);
+    let holds = pool_reader(memory, regime);
+    let mut asked = offers.asked.iter();
+    let mut why = Vec::new();
+    if let Some((address, _)) = asked.find(|(address, offered)| holds(*address) != *offered) {
+        why.push(format!("{address:#x} is not fed with what the pool holds"));
+    }
+    let mut wanted = memory.to_vec();
+    if let Some(update) = offers.update {
+        match offset_in_memory(&regime.pool, update.address) {
+            Some(offset) => write_descriptor(&mut wanted, offset, update.value, regime.ee),
+            None => why.push("an update outside the pool".to_string()),
+        }
+    }
+    let mut came = memory.to_vec();
+    let (answer, visited) = party.walk(&mut came, regime, access, spelling(offers.line));
+    if answer != offers.answer {
+        why.push(format!("the plain walk: {}", answer_words(&answer)));
+    }
+    let named: Vec<u64> = offers.asked.iter().map(|asked| asked.0).collect();
+    why.extend(of_visited(&named, &answer, visited.as_deref()));
+    why.extend(of_memory(&wanted, &came));
+    why
 }
 
 fn changed(mut memory: Vec<u8>, changes: &[Run]) -> Vec<u8> {
@@ -110,15 +206,19 @@ fn differences<C>(step: &Step<C>, reply: &Reply, wanted: &[u8], arena: &Arena) -
 
 /// A reply in the words of the vectors, or else by its fields.
 fn words(reply: &Reply) -> String {
-    let is_refusal = |answer: &CAnswer| {
-        let refused = Answer::Refused(answer.refusal);
-        *answer == plain_answer(&refused)
-    };
     match reply {
         Reply::Changed(0) | Reply::Dropped => "accepted".to_string(),
         Reply::Changed(number) => format!("refused {number}"),
-        Reply::Answered(answer) if is_refusal(answer) => format!("refused {}", answer.refusal),
-        Reply::Answered(answer) => in_hexadecimal(answer),
+        Reply::Answered(answer) => answer_words(answer),
+    }
+}
+
+/// The same for an answer.
+fn answer_words(answer: &CAnswer) -> String {
+    if *answer == plain_answer(&Answer::Refused(answer.refusal)) {
+        format!("refused {}", answer.refusal)
+    } else {
+        in_hexadecimal(answer)
     }
 }
 

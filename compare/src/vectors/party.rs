@@ -1,9 +1,10 @@
 //! Those that are held against the vectors: the library, which `main.rs`
 //! links, and the second program.
 
-use crate::boundary::{plain_answer, CAnswer, CSession, Spelling, Subject};
+use crate::boundary::{plain_answer, CAnswer, CSession, Spelling, Stepper, Subject};
 use crate::reference::{self, Access, Regime};
 use crate::session::Session;
+use crate::stepwise;
 
 pub trait Party {
     const NAME: &'static str;
@@ -25,6 +26,9 @@ pub trait Party {
     ///
     /// What is wrong with its bytes.
     fn fresh(&self, noise: u64) -> Result<Self::Session, String>;
+
+    /// The walk a descriptor at a time.
+    fn stepper(&self) -> impl Stepper;
 }
 
 /// The second program.
@@ -47,6 +51,10 @@ impl Party for Second {
 
     fn fresh(&self, _: u64) -> Result<Session, String> {
         Ok(Session::FRESH)
+    }
+
+    fn stepper(&self) -> impl Stepper {
+        stepwise::Second
     }
 }
 

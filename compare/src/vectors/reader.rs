@@ -8,6 +8,7 @@ use super::text::{Line, Lines, Problem, NOTE};
 use crate::boundary::{plain_answer, CAnswer, Reply, FAULT, SUCCESS};
 use crate::reference::{Access, Answer, Kind, Regime, MEMORY_LIMIT};
 use crate::session::Call;
+use crate::stepwise::Update;
 
 /// The longest memory that a case may have: 64 MiB, well above what may be lent.
 pub const LONGEST_MEMORY: usize = 1 << 26;
@@ -20,8 +21,16 @@ pub struct Case {
     pub line: usize,
     pub number: u64,
     pub note: Option<String>,
-    pub memory: Vec<u8>,
+    /// There may be none where nothing is lent.
+    pub memory: Option<Vec<u8>>,
     pub calls: Calls,
+}
+
+impl Case {
+    /// The memory that is lent.
+    pub fn lent(&self) -> &[u8] {
+        self.memory.as_deref().unwrap_or_default()
+    }
 }
 
 /// The calls of a case, by its kind.
@@ -30,6 +39,8 @@ pub enum Calls {
     Walk(Regime, Vec<Step<Access>>),
     /// From the fresh session, each over the memory that the last one left.
     Session(Vec<Step<Call>>),
+    /// A walk a descriptor at a time.
+    Stepwise(Offers),
 }
 
 impl Calls {
@@ -37,8 +48,23 @@ impl Calls {
         match self {
             Calls::Walk(_, steps) => steps.len(),
             Calls::Session(steps) => steps.len(),
+            Calls::Stepwise(offers) => 1 + offers.asked.len() + offers.late.len(),
         }
     }
+}
+
+/// A walk a descriptor at a time, what is offered to it, and what should come
+/// of it. An offer without a value is "not reachable".
+pub struct Offers {
+    pub line: usize,
+    pub regime: Regime,
+    pub access: Access,
+    /// Each address that is named, and what is offered then.
+    pub asked: Vec<(u64, Option<u64>)>,
+    pub answer: CAnswer,
+    pub update: Option<Update>,
+    /// What is offered after the end.
+    pub late: Vec<Option<u64>>,
 }
 
 /// A call and what should come of it.
@@ -74,7 +100,18 @@ impl Run {
 /// Reads the rest of a case, whose memory has so many bytes.
 type ReadCalls = fn(&mut Lines, usize) -> Result<Calls, Problem>;
 
-const KINDS: &[(&str, ReadCalls)] = &[("walk", walk), ("session", session)];
+/// Whether a case must have a memory.
+#[derive(Clone, Copy)]
+enum Memory {
+    Due,
+    MayBeMissing,
+}
+
+const KINDS: &[(&str, (Memory, ReadCalls))] = &[
+    ("walk", (Memory::Due, walk)),
+    ("session", (Memory::Due, session)),
+    ("stepwise", (Memory::MayBeMissing, stepwise)),
+];
 
 /// Reads a call, whose first line is given.
 type ReadCall = fn(&mut Lines, &Line) -> Result<Call, Problem>;
@@ -122,11 +159,15 @@ fn case(lines: &mut Lines) -> Result<Case, Problem> {
     let [number, kind] = line.words()?;
     let number = line.read(number)?;
     let unknown = || line.problem(format!("unknown kind of case `{kind}`"));
-    let calls = find(KINDS, kind).ok_or_else(unknown)?;
+    let (due, calls) = find(KINDS, kind).ok_or_else(unknown)?;
     let note = lines.take_if(NOTE).map(|line| line.words());
     let note = note.transpose()?.map(|[text]| text.to_string());
-    let memory = memory(lines)?;
-    let calls = calls(lines, memory.len())?;
+    let first = match due {
+        Memory::Due => Some(lines.take(&["memory"])?),
+        Memory::MayBeMissing => lines.take_if("memory"),
+    };
+    let memory = first.map(|line| memory(lines, &line)).transpose()?;
+    let calls = calls(lines, memory.as_ref().map_or(0, Vec::len))?;
     Ok(Case {
         line: line.number,
         number,
@@ -136,8 +177,7 @@ fn case(lines: &mut Lines) -> Result<Case, Problem> {
     })
 }
 
-fn memory(lines: &mut Lines) -> Result<Vec<u8>, Problem> {
-    let line = lines.take(&["memory"])?;
+fn memory(lines: &mut Lines, line: &Line) -> Result<Vec<u8>, Problem> {
     let [length, fill] = line.words()?;
     let length: usize = line.read(length)?;
     if length > LONGEST_MEMORY {
@@ -192,6 +232,48 @@ fn session(lines: &mut Lines, length: usize) -> Result<Calls, Problem> {
     Ok(Calls::Session(steps))
 }
 
+fn stepwise(lines: &mut Lines, _: usize) -> Result<Calls, Problem> {
+    let regime = regime(&lines.take(&["regime"])?)?;
+    let line = lines.take(&["access"])?;
+    let access = access(&line)?;
+    let mut asked = Vec::new();
+    while let Some(ask) = lines.take_if("ask") {
+        let [address] = ask.words()?;
+        asked.push((ask.read(address)?, offer(&lines.take(&["feed"])?)?));
+    }
+    let answer = answer(lines)?;
+    let update = lines.take_if("update").map(|line| update(&line));
+    let update = update.transpose()?;
+    let mut late = vec![offer(&lines.take(&["late"])?)?];
+    while let Some(line) = lines.take_if("late") {
+        late.push(offer(&line)?);
+    }
+    let [] = lines.take(&[END])?.words()?;
+    Ok(Calls::Stepwise(Offers {
+        line: line.number,
+        regime,
+        access,
+        asked,
+        answer,
+        update,
+        late,
+    }))
+}
+
+fn offer(line: &Line) -> Result<Option<u64>, Problem> {
+    let [offered] = line.words()?;
+    line.read(offered)
+}
+
+fn update(line: &Line) -> Result<Update, Problem> {
+    let [address, expected, value] = line.words()?;
+    Ok(Update {
+        address: line.read(address)?,
+        expected: line.read(expected)?,
+        value: line.read(value)?,
+    })
+}
+
 /// The steps up to the end of the case; a step begins with one of the names.
 fn steps<C>(
     lines: &mut Lines,
@@ -243,33 +325,51 @@ fn store(line: &Line) -> Result<Call, Problem> {
     })
 }
 
-/// The answer to a call, in the library's form.
+/// What is replied to a call, in the library's form.
 fn reply(lines: &mut Lines, call: &Call) -> Result<Reply, Problem> {
-    let line = lines.take(&["answer"])?;
-    let Some((&sort, rest)) = line.rest().split_first() else {
-        return Err(line.miscounted("one or more"));
-    };
-    let answered = |table, tag| {
-        let to = CAnswer {
-            tag,
-            ..CAnswer::default()
-        };
-        settings::read(table, to, &line, rest).map(Reply::Answered)
-    };
+    if let Call::Access(_) = call {
+        return answer(lines).map(Reply::Answered);
+    }
+    let (line, sort) = sort(lines)?;
     match (sort, call) {
-        ("ok", Call::Access(_)) => answered(settings::OK, SUCCESS),
-        ("fault", Call::Access(_)) => answered(settings::FAULT, FAULT),
-        ("refused", Call::Access(_)) => {
-            let answer = Answer::Refused(refusal(&line)?);
-            Ok(Reply::Answered(plain_answer(&answer)))
-        }
         ("refused", Call::SetRegime(_) | Call::Store { .. }) => refusal(&line).map(Reply::Changed),
         ("accepted", Call::SetRegime(_) | Call::Store { .. }) => {
             line.words::<1>().map(|_| Reply::Changed(0))
         }
         ("accepted", Call::DropAll) => line.words::<1>().map(|_| Reply::Dropped),
-        _ => Err(line.problem(format!("`{sort}` is no answer to this call"))),
+        _ => Err(no_answer(&line, sort)),
     }
+}
+
+/// The answer to an access, in the library's form.
+fn answer(lines: &mut Lines) -> Result<CAnswer, Problem> {
+    let (line, sort) = sort(lines)?;
+    let answered = |table, tag| {
+        let to = CAnswer {
+            tag,
+            ..CAnswer::default()
+        };
+        settings::read(table, to, &line, &line.rest()[1..])
+    };
+    match sort {
+        "ok" => answered(settings::OK, SUCCESS),
+        "fault" => answered(settings::FAULT, FAULT),
+        "refused" => Ok(plain_answer(&Answer::Refused(refusal(&line)?))),
+        _ => Err(no_answer(&line, sort)),
+    }
+}
+
+/// The line of an answer, and its first word.
+fn sort<'a>(lines: &mut Lines<'a>) -> Result<(Line<'a>, &'a str), Problem> {
+    let line = lines.take(&["answer"])?;
+    match line.rest().first() {
+        Some(&sort) => Ok((line, sort)),
+        None => Err(line.miscounted("one or more")),
+    }
+}
+
+fn no_answer(line: &Line, sort: &str) -> Problem {
+    line.problem(format!("`{sort}` is no answer to this call"))
 }
 
 /// The number of a refusal; 0 is none.

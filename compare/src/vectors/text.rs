@@ -144,7 +144,8 @@ fn ascii(file: &[u8]) -> Result<&str, Problem> {
 }
 
 /// A form that a word can have. The field that a word goes to decides on it:
-/// an integer is a NUMBER that fits it, a bool a FLAG, bytes are HEX.
+/// an integer is a NUMBER that fits it, a bool a FLAG, bytes are HEX, and what
+/// may be missing is an OFFER.
 pub trait Form: Sized {
     /// # Errors
     ///
@@ -166,6 +167,15 @@ impl Form for u64 {
         number
             .filter(|_| digits.bytes().all(is_digit))
             .ok_or_else(|| format!("`{word}` is no NUMBER below 2^64"))
+    }
+}
+
+impl Form for Option<u64> {
+    fn read(word: &str) -> Result<Self, String> {
+        match word {
+            "unreachable" => Ok(None),
+            _ => u64::read(word).map(Some),
+        }
     }
 }
 

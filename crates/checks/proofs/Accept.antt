@@ -18,7 +18,7 @@ use Rattle.vmsa.specs.declared.Refusal.{Refusal}
 use Rattle.checks.specs.declared.Checked.{Checked}
 use Rattle.checks.specs.declared.Checked.the-variants.{Accepted, Refused}
 use Rattle.refusals.specs.Tests.{memoryPoolBad, poolAddressBad, tszBad, sizesBad, rootBad, rootsBad, attributesBad, dirtyStateBad, sizeBad, accessSizeBad, lastByte, crossing}
-use Rattle.checks.specs.Order.{firstBefore, firstOf, regimeRows, accessRows, walkRows, regimeCheck, accessCheck, walkCheck}
+use Rattle.checks.specs.Order.{firstBefore, firstOf, regimeRows, accessRows, walkRows, startRows, regimeCheck, accessCheck, walkCheck, startCheck}
 
 -- no test of the rows applies
 abbrev pub Clear : List (Bool × Refusal) → Type 0
@@ -168,3 +168,10 @@ unfolding walkCheck
 walk-accepted n r a e =
     let c = clear (walkRows n r a) e in
     (settled-by n r (c .0) (c .1 .0) (c .1 .1 .0) (c .1 .1 .1 .0) (c .1 .1 .1 .1 .1 .0), shaped r a (c .1 .1 .1 .1 .1 .1 .0) (c .1 .1 .1 .1 .1 .1 .1 .0))
+
+-- a walk a descriptor at a time that is accepted
+pub start-accepted : (r : Regime) (a : Access) → startCheck r a ≡ Accepted → Sized r × Shaped r a
+unfolding startCheck
+start-accepted r a e =
+    let c = clear (startRows r a) e in
+    (sized r (c .0), shaped r a (c .1 .1 .1 .1 .0) (c .1 .1 .1 .1 .1 .0))

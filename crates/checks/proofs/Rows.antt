@@ -9,7 +9,8 @@ use Rattle.checks.specs.declared.Checked.{Checked}
 use Rattle.checks.specs.declared.Checked.the-variants.{Accepted, Refused}
 use Rattle.vmsa.specs.declared.Regime.{Regime}
 use Rattle.vmsa.specs.declared.Access.{Access}
-use Rattle.checks.specs.Order.{firstOf, andThen, regimeRows, accessRows, regimeCheck, accessCheck, walkCheck}
+use Rattle.refusals.specs.Tests.{memoryPoolBad, poolAddressBad}
+use Rattle.checks.specs.Order.{firstOf, andThen, tableRows, regimeRows, accessRows, tablesCheck, regimeCheck, accessCheck, walkCheck, startCheck}
 
 pub first-append : (xs ys : List (Bool × Refusal)) → firstOf (xs ++ ys) ≡ andThen (firstOf xs) (firstOf ys)
 first-append [] ys = refl
@@ -27,3 +28,13 @@ both (Refused x) y q = (cc, cc)
 pub walk-apart : (n : ℕ) (r : Regime) (a : Access) → walkCheck n r a ≡ andThen (regimeCheck n r) (accessCheck r a)
 unfolding regimeCheck accessCheck walkCheck
 walk-apart n r a = first-append (regimeRows n r) (accessRows r a)
+
+-- a walk a descriptor at a time checks what its regime says of tables, and then its access
+pub start-apart : (r : Regime) (a : Access) → startCheck r a ≡ andThen (tablesCheck r) (accessCheck r a)
+unfolding tablesCheck accessCheck startCheck
+start-apart r a = first-append (tableRows r) (accessRows r a)
+
+-- where the pool is as it should be, a plain walk asks what such a walk asks
+pub walk-start : (n : ℕ) (r : Regime) (a : Access) → memoryPoolBad n r ≡ false → poolAddressBad r ≡ false → walkCheck n r a ≡ startCheck r a
+unfolding walkCheck startCheck
+walk-start n r a e f = rw (e, f)

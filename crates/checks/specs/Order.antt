@@ -29,11 +29,13 @@ andThen (Refused x) next = Refused x
 abbrev pub memoryRows : ℕ → Regime → List (Bool × Refusal)
 memoryRows n r = (memoryPoolBad n r, MemoryPool) ∷ []
 
--- the other settings of a regime
+-- the settings of a regime that do not speak of its pool
+abbrev pub tableRows : Regime → List (Bool × Refusal)
+tableRows r = (sizesBad r, Sizes) ∷ (rootsBad r, Root) ∷ (attributesBad (r .attributes), Attributes) ∷ (dirtyStateBad r, DirtyState) ∷ []
+
+-- all but the memory
 abbrev pub settingRows : Regime → List (Bool × Refusal)
-settingRows r =
-    (poolAddressBad r, PoolAddress) ∷ (sizesBad r, Sizes) ∷ (rootsBad r, Root) ∷ (attributesBad (r .attributes), Attributes)
-    ∷ (dirtyStateBad r, DirtyState) ∷ []
+settingRows r = (poolAddressBad r, PoolAddress) ∷ tableRows r
 
 -- setting a regime over n bytes of memory
 abbrev pub regimeRows : ℕ → Regime → List (Bool × Refusal)
@@ -51,6 +53,13 @@ storeRows pool address = (storeAddressBad pool address, StoreAddress) ∷ []
 abbrev pub walkRows : ℕ → Regime → Access → List (Bool × Refusal)
 walkRows n r a = regimeRows n r ++ accessRows r a
 
+-- a walk a descriptor at a time, which has no pool
+abbrev pub startRows : Regime → Access → List (Bool × Refusal)
+startRows r a = tableRows r ++ accessRows r a
+
+unfoldable pub tablesCheck : Regime → Checked
+tablesCheck r = firstOf (tableRows r)
+
 unfoldable pub regimeCheck : ℕ → Regime → Checked
 regimeCheck n r = firstOf (regimeRows n r)
 
@@ -59,6 +68,9 @@ accessCheck r a = firstOf (accessRows r a)
 
 unfoldable pub walkCheck : ℕ → Regime → Access → Checked
 walkCheck n r a = firstOf (walkRows n r a)
+
+unfoldable pub startCheck : Regime → Access → Checked
+startCheck r a = firstOf (startRows r a)
 
 -- an access and a store in a session that has a regime
 unfoldable pub sessionAccessCheck : ℕ → Regime → Access → Checked

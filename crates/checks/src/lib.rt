@@ -1,6 +1,6 @@
 // The order in which a call is checked: the first row of the table that applies gives the refusal.
 ghost use mathlib.Core.Path.{_≡_};
-ghost use Rattle.checks.specs.Order.{regimeCheck, accessCheck, walkCheck, sessionAccessCheck, sessionStoreCheck};
+ghost use Rattle.checks.specs.Order.{andThen, tablesCheck, regimeCheck, accessCheck, walkCheck, startCheck, sessionAccessCheck, sessionStoreCheck};
 use refusals::access_size_bad;
 use refusals::attributes_bad;
 use refusals::crosses;
@@ -21,16 +21,10 @@ pub enum Checked {
     Refused(Refusal),
 }
 
-// Setting a regime over a memory of n bytes.
-pub fn check_regime(n: usize, r: Regime) -> Checked
-    ensures { λ x. ⌜ x ≡ regimeCheck n r ⌝ }
+// The settings of a regime that do not speak of its pool.
+fn check_tables(r: Regime) -> Checked
+    ensures { λ x. ⌜ x ≡ tablesCheck r ⌝ }
 {
-    if memory_pool_bad(n, r) {
-        return Checked::Refused(Refusal::MemoryPool);
-    }
-    if pool_address_bad(r) {
-        return Checked::Refused(Refusal::PoolAddress);
-    }
     if sizes_bad(r) {
         return Checked::Refused(Refusal::Sizes);
     }
@@ -46,6 +40,19 @@ pub fn check_regime(n: usize, r: Regime) -> Checked
     Checked::Accepted
 }
 
+// Setting a regime over a memory of n bytes.
+pub fn check_regime(n: usize, r: Regime) -> Checked
+    ensures { λ x. ⌜ x ≡ regimeCheck n r ⌝ }
+{
+    if memory_pool_bad(n, r) {
+        return Checked::Refused(Refusal::MemoryPool);
+    }
+    if pool_address_bad(r) {
+        return Checked::Refused(Refusal::PoolAddress);
+    }
+    check_tables(r)
+}
+
 // An access by itself, under a regime.
 pub fn check_access(r: Regime, a: Access) -> Checked
     ensures { λ x. ⌜ x ≡ accessCheck r a ⌝ }
@@ -59,14 +66,28 @@ pub fn check_access(r: Regime, a: Access) -> Checked
     Checked::Accepted
 }
 
+// One check, and then an access by itself.
+fn then_access(first: Checked, r: Regime, a: Access) -> Checked
+    ensures { λ x. ⌜ x ≡ andThen first (accessCheck r a) ⌝ }
+{
+    match first {
+        Checked::Refused(refusal) => Checked::Refused(refusal),
+        Checked::Accepted => check_access(r, a),
+    }
+}
+
 // A plain walk over a memory of n bytes.
 pub fn check_walk(n: usize, r: Regime, a: Access) -> Checked
     ensures { λ x. ⌜ x ≡ walkCheck n r a ⌝ }
 {
-    match check_regime(n, r) {
-        Checked::Refused(refusal) => Checked::Refused(refusal),
-        Checked::Accepted => check_access(r, a),
-    }
+    then_access(check_regime(n, r), r, a)
+}
+
+// A walk a descriptor at a time.
+pub fn check_start(r: Regime, a: Access) -> Checked
+    ensures { λ x. ⌜ x ≡ startCheck r a ⌝ }
+{
+    then_access(check_tables(r), r, a)
 }
 
 // An access in a session that has a regime, over a memory of n bytes.

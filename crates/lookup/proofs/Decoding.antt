@@ -19,6 +19,7 @@ use Rattle.vmsa.specs.declared.FaultKind.the-variants.{Translation, AddressSize
 use Rattle.lookup.specs.declared.Next.{Next}
 use Rattle.lookup.specs.declared.Next.the-variants as next
 use Rattle.lookup.specs.Steps.{invalid, isTable, addressIn, decoded}
+use Rattle.lookup.proofs.Levels.{table-left}
 
 -- ---- in the order of the code: bit 0, a table, anything else
 
@@ -96,6 +97,11 @@ is-table p limit left v table e =
       below = rw a (cut-lt v (pageSize p));
       within = rw (← t .2) (leb-false limit (addressIn p left v) (t .0));
     }
+
+-- and there is a level below it
+pub table-above : (p limit left v : ℕ) (table : PhysAddr) → decoded p limit left v ≡ next.Table table → 0 < left
+unfolding decoded
+table-above p limit left v table e = table-left left v (table-tests p limit left v (invalid p left v) (leb limit (addressIn p left v)) (isTable left v) table refl refl e .1)
 
 -- a multiple of the granule is a multiple of 8
 pub aligned8 : (p x : ℕ) → Paged p → x % pageSize p ≡ 0 → x % 8 ≡ 0

@@ -28,7 +28,7 @@ use Rattle.lookup.specs.declared.Next.{Next}
 use Rattle.lookup.specs.declared.Next.the-variants as next
 use Rattle.lookup.specs.declared.Context.{Context}
 use Rattle.lookup.specs.Trace.{End, fault, leaf, Trace, ended, endUnderHpd}
-use Rattle.lookup.specs.Steps.{decoded, fetched, onward, onWord, followed, entryAt, entered, descend, upper, rangeOf, outside, contextOf, lookup, locate}
+use Rattle.lookup.specs.Steps.{decoded, fetched, onward, onWord, followed, entryAt, entered, descend, upper, rangeOf, outside, contextOf, leftAtFirst, lookup, locate}
 use Rattle.lookup.specs.Packing.{endLevel, Backed}
 use Rattle.lookup.proofs.Decoding.{is-table, aligned8}
 
@@ -89,6 +89,10 @@ range-least r a z = by (upper a)
     by : (b : Bool) → tszLeast ≤ pick b (r .range1) (r .range0) .tsz
     by true = z .least1
     by false = z .least0
+
+-- the first level is one of the four
+pub first-low : (r : Regime) (a : ℕ) → Sized r → leftAtFirst r a ≤ 3
+first-low r a z = first-le (pageBitsOf r) (rangeOf r a .tsz) (paged (r .granule)) (range-least r a z)
 
 -- at most 4 descriptors are visited
 pub locate-visited : (r : Regime) (read : ℕ → Word) (a : ℕ) → Sized r → length (locate r read a .visited) ≤ 4

@@ -19,6 +19,8 @@ use Rattle.lookup.specs.declared.Word.{Word}
 use Rattle.lookup.specs.declared.Word.the-variants.{Value, Unreachable}
 use Rattle.lookup.specs.declared.Next.{Next}
 use Rattle.lookup.specs.declared.Next.the-variants as next
+use Rattle.lookup.specs.declared.First.{First}
+use Rattle.lookup.specs.declared.First.the-variants as first
 use Rattle.lookup.specs.declared.Context.{Context}
 use Rattle.lookup.specs.Trace.{fault, leaf, Trace, ended, visit, underHpd}
 
@@ -102,16 +104,35 @@ outside t a = not (eqb (a / 2 ^ (64 - t)) (pick (upper a) (2 ^ t - 1) 0))
 unfoldable pub contextOf : Regime → ℕ → Context
 contextOf r a = record { base = r .pool .address; limit = record { 0 = outputLimit (r .output) }; input = record { 0 = a % 2 ^ (64 - rangeOf r a .tsz) }; page = pageBitsOf r }
 
+-- the range is disabled, or the address is outside it; its root is beyond the output size
+abbrev pub noRange : Regime → ℕ → Bool
+noRange r a = rangeOf r a .disabled || outside (rangeOf r a .tsz) a
+
+abbrev pub rootBeyond : Regime → ℕ → Bool
+rootBeyond r a = leb (outputLimit (r .output)) (rangeOf r a .root .0)
+
+-- the levels left at the first level
+abbrev pub leftAtFirst : Regime → ℕ → ℕ
+leftAtFirst r a = firstLeft (pageBitsOf r) (rangeOf r a .tsz)
+
+-- where steps 1 and 2 lead: to a fault before any descriptor is read, or to the table of the first level
+unfoldable pub firstTable : Regime → ℕ → First
+firstTable r a = pick (noRange r a) (first.Fault Translation) (pick (rootBeyond r a) (first.Fault AddressSize) (first.Table (rangeOf r a .root)))
+
 -- steps 1 to 5, a leaf under the sum of all tables on the way
 unfoldable pub lookup : Regime → (ℕ → Word) → ℕ → Trace
 lookup r read a =
-    pick (rangeOf r a .disabled || outside (rangeOf r a .tsz) a) (ended (fault Translation 0))
-    (pick (leb (outputLimit (r .output)) (rangeOf r a .root .0)) (ended (fault AddressSize 0))
-    (descend (contextOf r a) read (suc (firstLeft (pageBitsOf r) (rangeOf r a .tsz))) noTables (rangeOf r a .root .0)))
+    pick (noRange r a) (ended (fault Translation 0))
+    (pick (rootBeyond r a) (ended (fault AddressSize 0)) (descend (contextOf r a) read (suc (leftAtFirst r a)) noTables (rangeOf r a .root .0)))
 
 -- the same, the tables counting unless HPD of the address's range is on (RULES 6.11)
 unfoldable pub locate : Regime → (ℕ → Word) → ℕ → Trace
 locate r read a = underHpd (rangeOf r a .hpd) (lookup r read a)
+
+-- what a walk can rely on where there is a first table
+abbrev pub Below : First → Type 0
+Below (first.Fault kind) = Unit {0}
+Below (first.Table root) = root .0 < addressLimit
 
 -- what a walk can rely on where a table follows
 abbrev pub Sound : ℕ → Next → Type 0

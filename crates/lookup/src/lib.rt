@@ -1,12 +1,12 @@
 // Steps 1 to 5 of the walk: from a guest address to a leaf descriptor, or a fault.
 ghost use mathlib.Core.Path.{_≡_};
 ghost use Prim.Native.Nat.{suc, _+_, _*_, _≤_, _<_, _^_};
-ghost use Rattle.vmsa.specs.Limits.{addressLimit, tszLeast, tszMost, Sized};
+ghost use Rattle.vmsa.specs.Limits.{addressLimit, tszLeast, tszMost, outputMost, Sized};
 ghost use Rattle.vmsa.specs.Fields.{tableBits, sumCount};
 ghost use Rattle.vmsa.specs.Granules.{Paged};
 ghost use Rattle.geometry.specs.Geometry.{levelOf};
 ghost use Rattle.lookup.specs.Trace.{fault, ended, underHpd, shown};
-ghost use Rattle.lookup.specs.Steps.{isTable, decoded, Sound, fetched, poolReader, context, entryAt, followed, descend, upper as upperAt, rangeOf, outside as outsideAt, locate as locateAt};
+ghost use Rattle.lookup.specs.Steps.{isTable, decoded, Sound, fetched, poolReader, context, entryAt, followed, descend, upper as upperAt, rangeOf, outside as outsideAt, contextOf, firstTable, Below, locate as locateAt};
 ghost use Rattle.lookup.specs.Packing.{kindNumber, kindNumbered, joined, packed, Packs};
 use vmsa::FaultKind;
 use vmsa::Leaf;
@@ -44,6 +44,12 @@ pub enum Next {
     Fault(FaultKind),
     Table(PhysAddr),
     Leaf,
+}
+
+// Where steps 1 and 2 lead: to a fault before any descriptor is read, or to the table of the first level.
+pub enum First {
+    Fault(FaultKind),
+    Table(PhysAddr),
 }
 
 pub enum Ending {
@@ -169,7 +175,7 @@ pub fn entry_at(c: Context, left: u8, table: PhysAddr) -> PhysAddr
 }
 
 // Bits 62 to 59 of a table descriptor.
-fn table_bits(v: u64) -> u64
+pub fn table_bits(v: u64) -> u64
     ensures { λ r. ⌜ (r ≡ tableBits v) × (r < sumCount) ⌝ }
 {
     descriptor::field(v, vmsa::TABLE_START, vmsa::TABLE_WIDTH)
@@ -276,26 +282,49 @@ pub fn outside(t: u8, a: VirtAddr) -> bool
     a.0 / descriptor::power(64 - t) != descriptor::select(upper(a), descriptor::power(t) - 1, 0)
 }
 
+// Steps 1 and 2, range being that of the address.
+pub fn first_table(r: Regime, range: Range, a: VirtAddr) -> First
+    requires { ⌜ (range ≡ rangeOf r (a .0)) × (tszLeast ≤ range .tsz) × (range .tsz ≤ tszMost) × (r .output ≤ outputMost) ⌝ }
+    ensures { λ f. ⌜ (f ≡ firstTable r (a .0)) × Below f ⌝ }
+{
+    if range.disabled | outside(range.tsz, a) {
+        return First::Fault(FaultKind::Translation);
+    }
+    let root = range.root;
+    if geometry::output_limit(r.output) <= root.0 {
+        return First::Fault(FaultKind::AddressSize);
+    }
+    First::Table(root)
+}
+
+// What the levels of a lookup share, range being that of the address.
+pub fn context_of(r: Regime, range: Range, a: VirtAddr) -> Context
+    requires { ⌜ (range ≡ rangeOf r (a .0)) × (tszLeast ≤ range .tsz) × (range .tsz ≤ tszMost) × (r .output ≤ outputMost) ⌝ }
+    ensures { λ c. ⌜ (c ≡ contextOf r (a .0)) × Paged (c .page) ⌝ }
+{
+    let base = r.pool.address;
+    let granule = r.granule;
+    Context {
+        base: base,
+        limit: PhysAddr(geometry::output_limit(r.output)),
+        input: VirtAddr(a.0 % descriptor::power(64 - range.tsz)),
+        page: granule.page_bits(),
+    }
+}
+
 // Steps 1 to 5.
 pub fn locate(pool: &[u8], r: Regime, a: VirtAddr) -> Located
     requires { ⌜ Sized r ⌝ }
     ensures { λ l. ⌜ l ≡ shown 0 (locateAt r (poolReader r (now (pool .entry))) (a .0)) ⌝ }
 {
     let range = range_of(r, a);
-    let t = range.tsz;
-    if range.disabled | outside(t, a) {
-        return failed(FaultKind::Translation, 0, 0);
+    match first_table(r, range, a) {
+        First::Fault(kind) => failed(kind, 0, 0),
+        First::Table(root) => {
+            let c = context_of(r, range, a);
+            let left = geometry::first_left(c.page, range.tsz);
+            let n = enter(pool, root, c.input, left, c.base, r.ee, c.page, c.limit, 0);
+            unpack(pool, r.ee, c.base, range.hpd, geometry::level(left), n)
+        }
     }
-    let limit = PhysAddr(geometry::output_limit(r.output));
-    let root = range.root;
-    if limit.0 <= root.0 {
-        return failed(FaultKind::AddressSize, 0, 0);
-    }
-    let base = r.pool.address;
-    let input = VirtAddr(a.0 % descriptor::power(64 - t));
-    let granule = r.granule;
-    let page = granule.page_bits();
-    let left = geometry::first_left(page, t);
-    let n = enter(pool, root, input, left, base, r.ee, page, limit, 0);
-    unpack(pool, r.ee, base, range.hpd, geometry::level(left), n)
 }

@@ -8,7 +8,7 @@ use lib.ListN.{length, getD, set as setAt, replicate}
 use Rattle.descriptor.specs.Bits.{pick}
 use Rattle.descriptor.proofs.Lists.{map-set}
 use Rattle.vmsa.specs.Settings.{initial}
-use Rattle.vmsa.specs.Words.{flag, regimeOf, regimeWords}
+use Rattle.vmsa.specs.Words.{flag, regimeOf, regimeWords, regimeSpare0}
 use Rattle.vmsa.specs.Answers.{Result, success, fault, refused as refusedWith}
 use Rattle.vmsa.specs.declared.Regime.{Regime}
 use Rattle.vmsa.specs.declared.RegimeWords.{RegimeWords}
@@ -29,12 +29,12 @@ use Rattle.session.specs.Model.{Session, Handed, handed, Stepped, Call, setRegi
 use Rattle.session.specs.View.{sessionView, emptyEntries, emptySession, setTo, setAfter, numberIn, entryIn, withEntries, sessionAfter, leaves}
 use Rattle.words.specs.declared.AccessWords.{AccessWords}
 use Rattle.words.specs.declared.AnswerWords.{AnswerWords}
-use Rattle.words.specs.Words.{accessOf, wordsOf, walkWords, refusalByte, replyWords, replied}
+use Rattle.words.specs.Words.{accessOf, wordsOf, walkWords, refusalByte, replyWords, replied, accessSpare0}
 use Rattle.capi_walk.specs.Says.{WalkSays}
 use Rattle.capi_session.specs.Says.{EmptySays, SetSays, AccessSays}
 use Rattle.calls.specs.Chains.{Event, Chain, none-yet, more}
 use Rattle.rules_c.specs.Code.{MadeC}
-use Rattle.rules_c.specs.Spare.{regimeSpare0, accessSpare0, entrySpare0, sessionSpare0, SpareOfC}
+use Rattle.rules_c.specs.Spare.{entrySpare0, sessionSpare0, SpareOfC}
 use Rattle.session.proofs.Calls.{access-is}
 use Rattle.rules_c.proofs.Chains.{made-is}
 use Rattle.rules_c.proofs.Sums.{access-spare}

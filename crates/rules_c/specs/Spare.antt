@@ -3,6 +3,7 @@ use Prim.Native.Nat.{ℕ, _%_}
 use mathlib.Core.List.{List, map}
 use mathlib.Core.Path.{_≡_}
 use Rattle.vmsa.specs.Fields.{sumCount}
+use Rattle.vmsa.specs.Words.{regimeSpare0}
 use Rattle.vmsa.specs.declared.RegimeWords.{RegimeWords}
 use Rattle.tlb.specs.declared.Entry.{Entry as EntryStruct}
 use Rattle.tlb.specs.Replies.{Reply}
@@ -10,38 +11,13 @@ use Rattle.session.specs.declared.Session.{Session as SessionStruct}
 use Rattle.session.specs.Model.{Handed, Call}
 use Rattle.words.specs.declared.AccessWords.{AccessWords}
 use Rattle.words.specs.declared.AnswerWords.{AnswerWords}
+use Rattle.words.specs.Words.{accessSpare0}
 use Rattle.capi_walk.specs.Says.{WalkSays}
 use Rattle.capi_session.specs.Says.{EmptySays, SetSays, AccessSays}
 use Rattle.calls.specs.Chains.{Event, Chain}
 use Rattle.rules_c.specs.Code.{MadeC}
 
--- ---- a struct with its spare numbers put to 0
-
-abbrev pub regimeSpare0 : RegimeWords → RegimeWords
-regimeSpare0 g = record {
-  start = g .start;
-  length = g .length;
-  address = g .address;
-  root0 = g .root0;
-  root1 = g .root1;
-  attributes = g .attributes;
-  tsz0 = g .tsz0;
-  tsz1 = g .tsz1;
-  disabled0 = g .disabled0;
-  disabled1 = g .disabled1;
-  output = g .output;
-  ha = g .ha;
-  hd = g .hd;
-  wxn = g .wxn;
-  hpd0 = g .hpd0;
-  hpd1 = g .hpd1;
-  ee = g .ee;
-  granule = g .granule;
-  spare32 = 0;
-}
-
-abbrev pub accessSpare0 : AccessWords → AccessWords
-accessSpare0 a = record { address = a .address; size = a .size; el0 = a .el0; kind = a .kind; spare16 = 0; spare32 = 0 }
+-- ---- a struct with its spare numbers put to 0 (of a regime, vmsa/specs/Words has it; of an access, words/specs/Words)
 
 abbrev pub entrySpare0 : EntryStruct → EntryStruct
 entrySpare0 e = record { page = e .page; value = e .value; left = e .left; held = e .held; tables = e .tables % sumCount; spare8 = 0; spare32 = 0 }

@@ -62,3 +62,27 @@ regimeWords r = record {
   granule = granuleNumber (r .granule);
   spare32 = 0;
 }
+
+-- the same numbers, the spare one put to 0 (RULES 15.5)
+abbrev pub regimeSpare0 : RegimeWords → RegimeWords
+regimeSpare0 g = record {
+  start = g .start;
+  length = g .length;
+  address = g .address;
+  root0 = g .root0;
+  root1 = g .root1;
+  attributes = g .attributes;
+  tsz0 = g .tsz0;
+  tsz1 = g .tsz1;
+  disabled0 = g .disabled0;
+  disabled1 = g .disabled1;
+  output = g .output;
+  ha = g .ha;
+  hd = g .hd;
+  wxn = g .wxn;
+  hpd0 = g .hpd0;
+  hpd1 = g .hpd1;
+  ee = g .ee;
+  granule = g .granule;
+  spare32 = 0;
+}

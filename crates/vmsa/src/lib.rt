@@ -174,6 +174,7 @@ pub enum Refusal {
     PageCrossing,
     StoreAddress,
     NoRegime,
+    WalkEnded,
     DirtyState,
 }
 
@@ -499,6 +500,7 @@ impl Refusal {
             Refusal::PageCrossing => 7,
             Refusal::StoreAddress => 8,
             Refusal::NoRegime => 9,
+            Refusal::WalkEnded => 12,
             Refusal::DirtyState => 13,
         }
     }

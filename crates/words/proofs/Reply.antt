@@ -12,7 +12,7 @@ use Rattle.vmsa.specs.Answers.{Result, success, fault, refused, numberOf}
 use Rattle.vmsa.specs.Words.{regimeOf, regimeWords}
 use Rattle.vmsa.specs.declared.Access.{Access}
 use Rattle.vmsa.specs.declared.Refusal.{Refusal}
-use Rattle.vmsa.specs.declared.Refusal.the-variants.{MemoryPool, PoolAddress, Sizes, Root, Attributes, AccessSize, PageCrossing, StoreAddress, NoRegime, DirtyState}
+use Rattle.vmsa.specs.declared.Refusal.the-variants.{MemoryPool, PoolAddress, Sizes, Root, Attributes, AccessSize, PageCrossing, StoreAddress, NoRegime, WalkEnded, DirtyState}
 use Rattle.vmsa.specs.declared.Regime.{Regime}
 use Rattle.vmsa.specs.declared.RegimeWords.{RegimeWords}
 use Rattle.checks.specs.declared.Checked.{Checked}
@@ -48,6 +48,7 @@ not-zero AccessSize = refl
 not-zero PageCrossing = refl
 not-zero StoreAddress = refl
 not-zero NoRegime = refl
+not-zero WalkEnded = refl
 not-zero DirtyState = refl
 
 set-by : (s : SessionStruct) (r : Regime) (x : Checked) → pick (eqb (refusalByte (replyTo x)) 0) (setTo (regimeWords r)) s ≡ setAfter s r x

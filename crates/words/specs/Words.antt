@@ -30,6 +30,10 @@ accessKind n =
 unfoldable pub accessOf : AccessWords → Access
 accessOf w = record { address = record { 0 = w .address }; size = w .size; el0 = flag (w .el0); kind = accessKind (w .kind) }
 
+-- the same numbers, the spare ones put to 0 (RULES 15.5)
+abbrev pub accessSpare0 : AccessWords → AccessWords
+accessSpare0 a = record { address = a .address; size = a .size; el0 = a .el0; kind = a .kind; spare16 = 0; spare32 = 0 }
+
 -- tag 0 for a success, 1 for a fault, 2 for a refusal; what an answer does not hold is 0, and so is spare
 unfoldable pub wordsOf : Result → AnswerWords
 wordsOf (success s) = record {

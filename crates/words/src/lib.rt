@@ -95,7 +95,8 @@ fn access_kind(n: u8) -> AccessKind
     AccessKind::Update
 }
 
-fn access_of(w: AccessWords) -> Access
+// The access that the numbers stand for.
+pub fn access_of(w: AccessWords) -> Access
     ensures { λ a. ⌜ a ≡ accessOf w ⌝ }
 {
     let kind = access_kind(w.kind);
@@ -215,7 +216,8 @@ pub fn entry_of(regime: RegimeWords, access: AccessWords) -> usize
     tlb::entry_of(regime, access_of(access))
 }
 
-fn no_answer() -> AnswerWords
+// No answer: refused, with no number.
+pub fn no_answer() -> AnswerWords
     ensures { λ w. ⌜ w ≡ wordsOf (refused 0) ⌝ }
 {
     AnswerWords {

@@ -8,6 +8,8 @@ mod granule;
 mod order;
 #[path = "tests/spare.rs"]
 mod spare;
+#[path = "tests/stepwise.rs"]
+mod stepwise;
 
 const POOL: u64 = 0x4000_0000;
 const LEAF: usize = 0x3018;

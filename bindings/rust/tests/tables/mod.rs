@@ -4,6 +4,8 @@
 
 #![allow(dead_code)]
 
+pub mod kind;
+
 use std::fmt::Debug;
 
 use vmsa::{

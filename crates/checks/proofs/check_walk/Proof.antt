@@ -8,14 +8,8 @@ use Rattle.checks.proofs.check_walk.Tie as tie
 
 returns : tie.Need-returns
 returns c =
-    let a = c .before .before .before .before .args in
-    sym (walk-apart (a .n) (a .r) (a .a) ∙ ap (λ (x : Checked). andThen x (accessCheck (a .r) (a .a))) (sym (c .before .before .before .check-regime .ensures) ∙ c .before .refusal .given .1))
-
-returns-2 : tie.Need-returns-2
-returns-2 c =
-    let a = c .before .before .before .before .args in
-    c .check-access .ensures
-    ∙ sym (walk-apart (a .n) (a .r) (a .a) ∙ ap (λ (x : Checked). andThen x (accessCheck (a .r) (a .a))) (sym (c .before .before .before .check-regime .ensures) ∙ c .before .enum-told .given .1))
+    let a = c .before .before .args in
+    c .then-access .ensures ∙ ap (λ (x : Checked). andThen x (accessCheck (a .r) (a .a))) (c .before .check-regime .ensures) ∙ sym (walk-apart (a .n) (a .r) (a .a))
 
 pub check-walk-spec : {M : Type 1} → statement M
-check-walk-spec = tie.close (tie.spec (λ c κs. search needs) (λ c. search needs) (λ c. search needs) (λ c κs. search needs) returns returns-2)
+check-walk-spec = tie.close (tie.spec (λ c κs. search needs) (λ c κs. search needs) returns)

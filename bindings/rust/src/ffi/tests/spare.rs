@@ -3,12 +3,13 @@
 use super::*;
 
 /// Structs of numbers without padding: any bytes are one.
-trait Plain {}
+pub trait Plain {}
 
 impl Plain for Answer {}
 impl Plain for Session {}
+impl Plain for Stepwise {}
 
-fn bytes<T: Plain>(of: &mut T) -> &mut [u8] {
+pub fn bytes<T: Plain>(of: &mut T) -> &mut [u8] {
     // SAFETY: all bytes of a struct without padding are initialised, and any
     // bytes are one of these structs.
     unsafe { std::slice::from_raw_parts_mut(std::ptr::from_mut(of).cast(), size_of::<T>()) }

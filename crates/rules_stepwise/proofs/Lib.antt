@@ -1,0 +1,9 @@
+pub mod Lefts
+pub mod Chains
+pub mod Starts
+pub mod Agreeing
+pub mod Unheard
+pub mod Pools
+pub mod Promises
+pub mod Settled
+pub mod Tied

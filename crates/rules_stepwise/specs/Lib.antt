@@ -1,0 +1,3 @@
+pub mod Feeds
+pub mod Promised
+pub mod Code
