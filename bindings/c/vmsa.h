@@ -44,7 +44,7 @@
  * While a call runs, the lent memory must not be written by anyone, a running
  * vCPU included. The marks (Access flag, dirty) are plain stores and not
  * compare-and-swap: what a vCPU writes to the descriptor in between is lost.
- * So a monitor does one of two things:
+ * So a monitor does one of three things:
  *   - It stops the vCPUs for the call.
  *   - It lends a copy of the pool, made by aligned loads of 8 bytes. A success
  *     changes at most one descriptor of the copy; before it uses the answer,
@@ -52,8 +52,8 @@
  *     of the old 8 bytes with the new, not swapped, whatever ee is. Where
  *     that fails the session, if one was used, holds a mark that was not made:
  *     empty it (vmsa_session_invalidate_all), take a new copy and call again.
- * Or it walks a descriptor at a time (vmsa_stepwise_start), which lends nothing
- * and hands out the expected and the new value of the one update.
+ *   - It walks a descriptor at a time (vmsa_stepwise_start), which lends
+ *     nothing and hands out the expected and the new value of the one update.
  *
  * Two threads may call at the same time unless they share a memory, a session,
  * an answer or a walk.
@@ -288,8 +288,8 @@ struct vmsa_stepwise {
     uint8_t update;    /* ended, and an update is due */
     uint8_t left;      /* levels below the wanted descriptor: 3 less its level;
                           0 once ended */
-    uint8_t tables;    /* as in vmsa_entry, of the tables so far; 0 once
-                          ended */
+    uint8_t tables;    /* bits as in vmsa_entry, of the tables so far, in which
+                          hpd0 and hpd1 have no say; 0 once ended */
     uint8_t spare[4];
 };
 
@@ -345,23 +345,39 @@ uint8_t vmsa_session_store(struct vmsa_session *session,
 void vmsa_session_invalidate_all(struct vmsa_session *session);
 
 /*
- * Starts a walk a descriptor at a time. The pool and ee of the regime have no
- * say: descriptors are numbers here. The walk may have ended at once: refused,
- * or with a fault before any descriptor is read. A walk reads as follows.
+ * Starts a walk a descriptor at a time. The walk may have ended at once:
+ * refused, or with a fault before any descriptor is read. It ends after at most
+ * four offers, whatever is offered. An access goes as follows.
  *
- *     vmsa_stepwise_start(&regime, &access, &walk);
- *     while (!walk.ended) {
- *         if (read_descriptor(walk.address, &value))
- *             vmsa_stepwise_value(&walk, value);
- *         else
- *             vmsa_stepwise_unreachable(&walk);
- *     }
- *     if (walk.update)
- *         exchange(walk.address, walk.expected, walk.value);
+ *     do {
+ *         vmsa_stepwise_start(&regime, &access, &walk);
+ *         while (!walk.ended) {
+ *             if (read_descriptor(walk.address, &value))
+ *                 vmsa_stepwise_value(&walk, value);
+ *             else
+ *                 vmsa_stepwise_unreachable(&walk);
+ *         }
+ *     } while (walk.update &&
+ *              !exchange(walk.address, walk.expected, walk.value));
+ *     use(&walk.answer);
  *
- * It ends after at most four offers, whatever is offered. Make the update
- * before the answer is used; where others may write the tables, by
- * compare-and-swap, and if that fails walk again.
+ * The update comes before the answer is used, and an access whose update cannot
+ * be made must not be carried out: its page would not be marked. Where others
+ * may write the tables, each descriptor is read by one load of 8 bytes, and
+ * exchange is a compare-and-swap that says whether it found what was expected.
+ *
+ * The pool and ee of the regime have no say: a descriptor is a number here.
+ * Where the guest's descriptors are big-endian (SCTLR_EL1.EE) the caller swaps
+ * the bytes of each value that it offers, and of expected and value.
+ *
+ * Descriptors that are read one after another may be of different moments. When
+ * the guest invalidates its TLB, or changes a register that the regime has, a
+ * walk under way is thrown away, before the invalidation is said to be complete,
+ * and started again: a table that it is about to read may be one no longer. The
+ * answer is for this one access.
+ *
+ * Start a walk from a regime and an access of your own, not from those in the
+ * walk: the pointers would overlap.
  */
 void vmsa_stepwise_start(const struct vmsa_regime *regime,
                          const struct vmsa_access *access,

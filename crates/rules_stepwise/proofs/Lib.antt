@@ -3,6 +3,7 @@ pub mod Chains
 pub mod Starts
 pub mod Agreeing
 pub mod Unheard
+pub mod Ended
 pub mod Pools
 pub mod Promises
 pub mod Settled

@@ -31,6 +31,7 @@ use Rattle.rules_stepwise.proofs.Chains.{stops, lasts-any}
 use Rattle.rules_stepwise.proofs.Starts.{Beside, beside}
 use Rattle.rules_stepwise.proofs.Agreeing.{same-plain}
 use Rattle.rules_stepwise.proofs.Unheard.{plain-elsewhere, concluded-answers}
+use Rattle.rules_stepwise.proofs.Ended.{Fine, fine-refused, fine-fault, fine-leaf}
 use Rattle.rules_stepwise.proofs.Pools.{IsWalk, plain-walk}
 
 module _ {S : Type 0} (see : S → Progress) (F : Functions S) (L : Offering see F) where
@@ -64,7 +65,42 @@ module _ {S : Type 0} (see : S → Progress) (F : Functions S) (L : Offering see
       by again p g (reached d v y z) = last (leaf (w .address .0) (leafAt w v)) g
       by again p g (deeper d v y table z) = again (below w v table) g c
 
+  -- what its end says
+  fed-fine : {s u : S} {offers : List Offer} (w : Wanting) → see s ≡ wanting w → Fed see F s offers u → (e : Ended) → see u ≡ ended e → Fine (w .regime) (w .access) e
+  fed-fine w q none-yet e h = clash (let z : wanting w ≡ ended e = sym q ∙ h in cc)
+  fed-fine {u = u} w q (more {t = t} {a = a} {n = n} {o = o} {offers = offers} m f rest) e h = by (λ w′ g. fed-fine w′ g rest e h) (offered w o) (L .goes _ o t n f w q .0) (left-by w o)
+    where
+      last : (y : Ended) → see t ≡ ended y → Fine (w .regime) (w .access) y → Fine (w .regime) (w .access) e
+      last y g k =
+          let z : ended y ≡ ended e = sym (stops see F L y g rest .1) ∙ h in
+          let d : y ≡ e = cc in
+          subst (Fine (w .regime) (w .access)) d k
+
+      by : ((w′ : Wanting) → see t ≡ wanting w′ → Fine (w′ .regime) (w′ .access) e) → (p : Progress) → see t ≡ p → Left w o p → Fine (w .regime) (w .access) e
+      by again p g (refused y d) = last (declined y) g (fine-refused (w .regime) (w .access) y)
+      by again p g (aborted d y) = last (conclusion (w .regime) (w .access) (readsAt w) (fault ExternalAbort (levelOf (leftAt w)))) g (fine-fault (w .regime) (w .access) (readsAt w) ExternalAbort (levelOf (leftAt w)))
+      by again p g (faulted d v y kind z) = last (conclusion (w .regime) (w .access) (readsAt w) (fault kind (levelOf (leftAt w)))) g (fine-fault (w .regime) (w .access) (readsAt w) kind (levelOf (leftAt w)))
+      by again p g (reached d v y z) = last (conclusion (w .regime) (w .access) (readsAt w) (leaf (w .address .0) (leafAt w v))) g (fine-leaf w (readsAt w) v z)
+      by again p g (deeper d v y table z) = again (below w v table) g
+
   module _ (r : Regime) (a : Access) (s : S) (q : see s ≡ start r a) where
+    started-fine : (t : S) (offers : List Offer) → Fed see F s offers t → (e : Ended) → see t ≡ ended e → Fine r a e
+    started-fine t offers f e h = by (startCheck r a) refl
+      where
+        over : (y : Ended) → see s ≡ ended y → Fine r a y → Fine r a e
+        over y g k =
+            let z : ended y ≡ ended e = sym (stops see F L y g f .1) ∙ h in
+            let d : y ≡ e = cc in
+            subst (Fine r a) d k
+
+        first-by : (y : First) → see s ≡ begun r a y → Fine r a e
+        first-by (first.Fault kind) g = over (conclusion r a 0 (fault kind 0)) g (fine-fault r a 0 kind 0)
+        first-by (first.Table root) g = fed-fine (wantingEntry r a (leftAtFirst r (a .address .0)) noTables (root .0)) g f e h
+
+        by : (y : Checked) → startCheck r a ≡ y → Fine r a e
+        by (Refused y) c = over (declined y) (q ∙ start-refused r a y c) (fine-refused r a y)
+        by Accepted c = first-by (firstTable r (a .address .0)) (q ∙ start-begun r a c)
+
     -- what a start that is not refused gives
     on-first : startCheck r a ≡ Accepted → (f : First) → see s ≡ begun r a f → (e : Ended) → see s ≡ ended e → (k : ℕ) → e .result ≡ refusedWith k → ⊥
     on-first c (first.Fault kind) g e h k x =
@@ -119,6 +155,8 @@ module _ {S : Type 0} (see : S → Progress) (F : Functions S) (L : Offering see
     walks = record {
       refusals = λ k. (λ x. refused-by k (x .0) (x .1) (x .2), refused-at k);
       later = fed-answers;
+      update = λ t offers f e h. started-fine t offers f e h .0;
+      below = λ t offers f e h. started-fine t offers f e h .1;
       all = λ read t offers f z e h. at-end read t offers f z e h .0;
       first = λ read t offers f z x h. before-end read t offers f z x h (see t) refl;
       end = λ read t offers f z e h. at-end read t offers f z e h .1;

@@ -1,18 +1,21 @@
 -- What is promised of every walk a descriptor at a time (RULES 16.5), by any functions that do what the rules say of an offer.
-use Prim.Native.Nat.{ℕ, _+_, _-_, _≤_}
-use mathlib.Core.Bool.{Bool, false}
+use Prim.Native.Nat.{ℕ, _+_, _-_, _≤_, _<_}
+use mathlib.Core.Bool.{Bool, true, false, _||_}
 use mathlib.Core.List.{List, [], _∷_, _++_}
 use mathlib.Core.Option.{some}
 use mathlib.Core.Logic.{_↔_, _≢_}
 use mathlib.Core.Path.{_≡_}
 use lib.ListN.{length}
 use Rattle.descriptor.specs.Bytes.{desc, put}
+use Rattle.descriptor.specs.Bits.{bit}
+use Rattle.geometry.specs.Geometry.{outputLimit}
 use Rattle.vmsa.specs.Settings.{withPool, withEe}
-use Rattle.vmsa.specs.Answers.{refused, numberOf}
+use Rattle.vmsa.specs.Answers.{Result, success, refused, numberOf}
 use Rattle.vmsa.specs.declared.Regime.{Regime}
 use Rattle.vmsa.specs.declared.Pool.{Pool}
 use Rattle.vmsa.specs.declared.PhysAddr.{PhysAddr}
 use Rattle.vmsa.specs.declared.Access.{Access}
+use Rattle.vmsa.specs.declared.Success.{Success}
 use Rattle.vmsa.specs.declared.Refusal.the-variants.{WalkEnded}
 use Rattle.refusals.specs.Tests.{memoryPoolBad, poolAddressBad}
 use Rattle.checks.specs.Order.{startRows}
@@ -22,6 +25,7 @@ use Rattle.stepwise.specs.declared.Due.the-variants as due
 use Rattle.stepwise.specs.Stepwise.{Ended, Progress, ended}
 use Rattle.walk.specs.Walk.{walk}
 use Rattle.rules.specs.Rule1.{FirstNumber}
+use Rattle.rules.specs.Rule2.{FlagUpdate, DirtyUpdate}
 use Rattle.rules.specs.Tables.{readerOf}
 use Rattle.rules_stepwise.specs.Feeds.{Offer, named, Functions, Fed, addresses, Reads, plainOver}
 
@@ -44,6 +48,18 @@ pub record StandsAt (r : Regime) (m : List ℕ) (address : PhysAddr) (value : �
 abbrev pub Expected : Regime → List ℕ → Due → Type 0
 Expected r m due.Nothing = Unit {0}
 Expected r m (due.Update u) = StandsAt r m (u .address) (u .expected)
+
+-- what an end says of its update (RULES 8 and 16.4): one is due exactly where the answer is a success that sets the Access flag or makes the page dirty, and it does that,
+-- from the value expected to the new one, and changes no other bit
+pub record Made (r : Regime) (a : Access) (x : Success) (v w : ℕ) : Type 0 where
+  pub some : (x .accessed || x .dirtied) ≡ true
+  pub flag : FlagUpdate r a v w (x .accessed)
+  pub dirty : DirtyUpdate r a v w (x .dirtied)
+  pub bits : (n : ℕ) → n ≢ 10 → n ≢ 7 → bit n w ≡ bit n v
+
+abbrev pub Says : Regime → Access → Result → Due → Type 0
+Says r a result due.Nothing = (x : Success) → result ≡ success x → (x .accessed ≡ false) × (x .dirtied ≡ false)
+Says r a result (due.Update u) = (x : Success) × (result ≡ success x) × Made r a x (u .expected) (u .value)
 
 -- a regime with another pool, and in either byte order
 abbrev pub elsewhere : Regime → Pool → Bool → Regime
@@ -70,6 +86,9 @@ module _ {S : Type 0} (see : S → Progress) (F : Functions S) where
     -- the start is refused with k exactly where the first row that applies has the number k; no walk that was fed ends in a refusal
     pub refusals : (k : ℕ) → ((e : Ended) × (see s ≡ ended e) × (e .result ≡ refused k)) ↔ FirstNumber (startRows r a) k
     pub later : (x : Offer) (offers : List Offer) (t : S) → Fed see F s (x ∷ offers) t → (e : Ended) → see t ≡ ended e → (k : ℕ) → e .result ≢ refused k
+    -- whatever was offered: the update is what the answer says, and a success gives an address below 2 to the output size
+    pub update : (t : S) (offers : List Offer) → Fed see F s offers t → (e : Ended) → see t ≡ ended e → Says r a (e .result) (e .due)
+    pub below : (t : S) (offers : List Offer) → Fed see F s offers t → (e : Ended) → see t ≡ ended e → (x : Success) → e .result ≡ success x → x .output .0 < outputLimit (r .output)
     -- the addresses named, in order, are those that the plain walk visits over that reader: all of them at the end, and before it the first ones, the next being the one that is wanted
     pub all : (read : ℕ → Word) (t : S) (offers : List Offer) → Fed see F s offers t → Reads read offers → (e : Ended) → see t ≡ ended e → addresses offers ≡ plainOver r a read .visited
     pub first : (read : ℕ → Word) (t : S) (offers : List Offer) → Fed see F s offers t → Reads read offers → (x : ℕ) → named (see t) ≡ some x
