@@ -8,3 +8,4 @@ pub mod Pools
 pub mod Promises
 pub mod Settled
 pub mod Tied
+pub mod Worked

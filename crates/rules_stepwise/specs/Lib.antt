@@ -1,3 +1,4 @@
 pub mod Feeds
 pub mod Promised
 pub mod Code
+pub mod Worked
