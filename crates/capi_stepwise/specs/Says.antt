@@ -6,7 +6,7 @@ use Rattle.vmsa.specs.declared.RegimeWords.{RegimeWords}
 use Rattle.lookup.specs.declared.Word.the-variants.{Unreachable}
 use Rattle.words.specs.declared.AccessWords.{AccessWords}
 use Rattle.step_words.specs.declared.StepwiseWords.{StepwiseWords}
-use Rattle.step_words.specs.Words.{startWords, offering, offerWords}
+use Rattle.step_words.specs.Words.{startWords, offerGives, offerWords}
 
 -- vmsa_stepwise_start(&g, &a, &..) left w
 abbrev pub StartSays : RegimeWords → AccessWords → StepwiseWords → Type 0
@@ -14,4 +14,4 @@ StartSays g a w = w ≡ startWords g a
 
 -- vmsa_stepwise_unreachable(&w) returned n, and left w′
 abbrev pub UnreachableSays : StepwiseWords → StepwiseWords → ℕ → Type 0
-UnreachableSays w w′ n = offering n w′ ≡ offerWords w Unreachable
+UnreachableSays w w′ n = offerGives n w′ ≡ offerWords w Unreachable

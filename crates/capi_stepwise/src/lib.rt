@@ -2,7 +2,7 @@
 // Nothing that a caller passes is out of contract but a bad pointer, or two that overlap.
 ghost use mathlib.Core.Path.{_≡_};
 ghost use Rattle.lookup.specs.declared.Word.the-variants.{Unreachable};
-ghost use Rattle.step_words.specs.Words.{startWords, offerWords, offering};
+ghost use Rattle.step_words.specs.Words.{startWords, offerWords, offerGives};
 use step_words::StepwiseWords;
 use vmsa::RegimeWords;
 use words::AccessWords;
@@ -24,7 +24,7 @@ pub extern "C" fn vmsa_stepwise_start(
 // Says that the descriptor that the lent walk wants is not reachable: 0, or 12 after the end.
 #[no_mangle]
 pub extern "C" fn vmsa_stepwise_unreachable(walk: &mut StepwiseWords) -> u8
-    ensures { λ n. ⌜ offering n (now (walk .exit)) ≡ offerWords (now (walk .entry)) Unreachable ⌝ }
+    ensures { λ n. ⌜ offerGives n (now (walk .exit)) ≡ offerWords (now (walk .entry)) Unreachable ⌝ }
 {
     let before = *walk;
     let offered = step_words::unreachable_words(before);

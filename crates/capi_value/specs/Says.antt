@@ -4,8 +4,8 @@ use Prim.Native.Nat.{ℕ}
 use mathlib.Core.Path.{_≡_}
 use Rattle.lookup.specs.declared.Word.the-variants.{Value}
 use Rattle.step_words.specs.declared.StepwiseWords.{StepwiseWords}
-use Rattle.step_words.specs.Words.{offering, offerWords}
+use Rattle.step_words.specs.Words.{offerGives, offerWords}
 
 -- vmsa_stepwise_value(&w, v) returned n, and left w′
 abbrev pub ValueSays : StepwiseWords → ℕ → StepwiseWords → ℕ → Type 0
-ValueSays w v w′ n = offering n w′ ≡ offerWords w (Value v)
+ValueSays w v w′ n = offerGives n w′ ≡ offerWords w (Value v)

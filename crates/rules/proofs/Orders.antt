@@ -14,7 +14,9 @@ use Rattle.descriptor.proofs.Laws.{length-bytes, value-other, bytes-other, put-
 use Rattle.descriptor.proofs.Tests.{and-true}
 use Rattle.vmsa.specs.Limits.{Sized}
 use Rattle.vmsa.specs.Fields.{tableBits}
+use Rattle.vmsa.specs.Settings.{withPool, withEe}
 use Rattle.vmsa.specs.declared.Regime.{Regime}
+use Rattle.vmsa.specs.declared.Pool.{Pool}
 use Rattle.vmsa.specs.declared.Access.{Access}
 use Rattle.vmsa.specs.declared.Leaf.{Leaf}
 use Rattle.refusals.specs.Tests.{sizesBad, rootsBad, dirtyStateBad, memoryPoolBad, poolAddressBad, crossing}
@@ -143,10 +145,10 @@ locate-other : (r : Regime) (read : ℕ → Word) (a : ℕ) → locate (otherOrd
 unfolding lookup locate rangeOf contextOf
 locate-other r read a = refl
 
--- steps 6 to 8 do not ask it, nor do the checks
-decision-other : (r : Regime) (a : Access) (l : Leaf) (n : ℕ) → decision (otherOrder r) a l n ≡ decision r a l n
+-- steps 6 to 8 do not ask it, nor the pool; and the checks do not ask it
+pub decision-elsewhere : (r : Regime) (p : Pool) (ee : Bool) (a : Access) (l : Leaf) (n : ℕ) → decision (withEe (withPool r p) ee) a l n ≡ decision r a l n
 unfolding decision passing flagDue dirtyDue cacheable flagFails alignmentFails permissionFails attributeOf writable clean mayWrite mayFetch permitted outputOf
-decision-other r a l n = refl
+decision-elsewhere r p ee a l n = refl
 
 check-other : (n : ℕ) (r : Regime) (a : Access) → walkCheck n (otherOrder r) a ≡ walkCheck n r a
 unfolding walkCheck memoryPoolBad poolAddressBad sizesBad rootsBad dirtyStateBad crossing
@@ -172,7 +174,7 @@ module _ (r : Regime) (a : Access) (pool : List ℕ) (n : ℕ) (long : length po
       let d = decision r a l k in
       let j = at - r .pool .address .0 in
       let a8 : at % 8 ≡ 0 = f .reached .aligned in
-      rw (decision-other r a l k) (ap (λ (x : List ℕ). record { result = d .result; bytes = x }) (by (d .update) (put (r .ee) pool j (d .value)) (put-other (r .ee) n pool long j (omega arith) (omega (arith, i .least, i .most)) (d .value))))
+      rw (decision-elsewhere r (r .pool) (not (r .ee)) a l k) (ap (λ (x : List ℕ). record { result = d .result; bytes = x }) (by (d .update) (put (r .ee) pool j (d .value)) (put-other (r .ee) n pool long j (omega arith) (omega (arith, i .least, i .most)) (d .value))))
     where
       by : (b : Bool) {x : List ℕ} (y : List ℕ) → x ≡ swapped n y → pick b x (swapped n pool) ≡ swapped n (pick b y pool)
       by true y e = e

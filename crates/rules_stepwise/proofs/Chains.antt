@@ -1,37 +1,28 @@
 -- Every walk that is fed, by any functions that do what the rules say of an offer: how long it lasts, and over a reader, what it names and how it ends.
-use Prim.Native.Nat.{ℕ, zero, suc, _+_, _-_, _≤_, _<_, min, zero-le}
+use Prim.Native.Nat.{ℕ, suc, _+_, _-_, _≤_, zero-le}
 use mathlib.Core.Bool.{Bool}
 use mathlib.Core.List.{List, [], _∷_, _++_}
-use mathlib.Core.Option.{Option, none, some}
+use mathlib.Core.Option.{none, some}
 use mathlib.Core.Path.{_≡_, refl, sym, ap, subst, subst⁻¹, _∙_}
-use native.Mathlib.Nat.{min-eq-left, le-refl}
 use native.Mathlib.Omega.{arith}
 use lib.ListN.{length}
 use Rattle.descriptor.proofs.Tests.{clash}
-use Rattle.vmsa.specs.Answers.{numberOf}
-use Rattle.vmsa.specs.Fields.{noTables}
-use Rattle.vmsa.specs.declared.Regime.{Regime}
-use Rattle.vmsa.specs.declared.Access.{Access}
 use Rattle.vmsa.specs.declared.PhysAddr.{PhysAddr}
 use Rattle.vmsa.specs.declared.Refusal.{Refusal}
-use Rattle.vmsa.specs.declared.Refusal.the-variants.{WalkEnded}
 use Rattle.checks.specs.declared.Checked.{Checked}
 use Rattle.checks.specs.declared.Checked.the-variants.{Accepted, Refused}
 use Rattle.checks.specs.Order.{startCheck}
 use Rattle.checks.proofs.Accept.{start-accepted}
 use Rattle.lookup.specs.declared.Word.{Word}
 use Rattle.lookup.specs.declared.Next.the-variants as next
-use Rattle.lookup.specs.declared.First.{First}
 use Rattle.lookup.specs.declared.First.the-variants as first
 use Rattle.lookup.specs.Trace.{End, Trace, ended as endedTrace, endUnderHpd, visit}
-use Rattle.lookup.specs.Steps.{descend, contextOf, rangeOf, leftAtFirst, firstTable, locate, entryAt}
-use Rattle.lookup.proofs.Levels.{fromFirst, locate-first}
+use Rattle.lookup.specs.Steps.{rangeOf}
 use Rattle.lookup.proofs.Reach.{first-low}
 use Rattle.stepwise.specs.declared.Wanting.{Wanting}
-use Rattle.stepwise.specs.Stepwise.{Ended, Progress, wanting, ended, conclusion, declined, wantingEntry, begun, start, firstOf, leftAt, readsAt, contextAt, offered}
-use Rattle.stepwise.proofs.Laws.{start-refused, start-begun}
-use Rattle.rules_stepwise.specs.Feeds.{Offer, named, Functions, Offering, Fed, none-yet, more, addresses, Reads, along, plainBy, plainOver}
-use Rattle.rules_stepwise.proofs.Lefts.{saysAt, below, Left, refused, aborted, faulted, deeper, reached, left-by, left-most, left-above, left-below, entryTrace, descend-entry, restOf, rest-aborted, rest-faulted, rest-reached, rest-deeper}
+use Rattle.stepwise.specs.Stepwise.{Ended, Progress, wanting, ended, conclusion, declined, start, leftAtStart, leftAt, readsAt, offered}
+use Rattle.rules_stepwise.specs.Feeds.{Offer, named, Functions, Offering, Fed, none-yet, more, addresses, Reads}
+use Rattle.rules_stepwise.proofs.Lefts.{saysAt, below, Left, refused, aborted, faulted, deeper, reached, left-by, left-most, left-above, left-below, restOf, rest-aborted, rest-faulted, rest-reached, rest-deeper}
 
 -- a walk names the address of the descriptor that it wants
 some-is : {x y : ℕ} → some x ≡ some y → x ≡ y
@@ -42,7 +33,7 @@ abbrev pub hpdOf : Wanting → Bool
 hpdOf w = rangeOf (w .regime) (w .access .address .0) .hpd
 
 abbrev pub before : Wanting → ℕ
-before w = firstOf w - leftAt w
+before w = leftAtStart w - leftAt w
 
 abbrev pub endOf : Wanting → (ℕ → Word) → ℕ → Ended
 endOf w read reads = conclusion (w .regime) (w .access) reads (endUnderHpd (hpdOf w) (restOf w read .end))
@@ -82,7 +73,7 @@ module _ (w : Wanting) (read : ℕ → Word) (o : Word) where
       let b = left-below w v table d in
       let z = left-above w v table d in
       let m = left-most w in
-      ap (λ (n : ℕ). firstOf w - n) b ∙ (let y : firstOf w - (leftAt w - 1) ≡ suc (firstOf w - leftAt w) = omega arith in y)
+      ap (λ (n : ℕ). leftAtStart w - n) b ∙ (let y : leftAtStart w - (leftAt w - 1) ≡ suc (leftAtStart w - leftAt w) = omega arith in y)
 
 module _ {S : Type 0} (see : S → Progress) (F : Functions S) (L : Offering see F) where
   -- after an end nothing is offered

@@ -1,11 +1,11 @@
 -- What every end says, whatever was offered: of its update, and of its output address.
-use Prim.Native.Nat.{ℕ, _+_, _%_, _^_, _<_}
+use Prim.Native.Nat.{ℕ, _^_, _<_}
 use mathlib.Core.Bool.{Bool, true, false, _||_}
 use mathlib.Core.Path.{_≡_, refl, sym, ap, subst, _∙_}
-use Rattle.descriptor.specs.Bits.{pick, bit}
+use Rattle.descriptor.specs.Bits.{pick}
 use Rattle.descriptor.proofs.Tests.{clash, or-false}
 use Rattle.vmsa.specs.Granules.{pageBitsOf}
-use Rattle.vmsa.specs.Answers.{Result, success, refused as refusedWith, numberOf}
+use Rattle.vmsa.specs.Answers.{success, refused as refusedWith}
 use Rattle.vmsa.specs.declared.Regime.{Regime}
 use Rattle.vmsa.specs.declared.Access.{Access}
 use Rattle.vmsa.specs.declared.Leaf.{Leaf}
@@ -13,7 +13,7 @@ use Rattle.vmsa.specs.declared.Success.{Success}
 use Rattle.vmsa.specs.declared.Refusal.{Refusal}
 use Rattle.vmsa.specs.declared.FaultKind.{FaultKind}
 use Rattle.vmsa.specs.declared.FaultKind.the-variants.{AccessFlag, Alignment, Permission}
-use Rattle.geometry.specs.Geometry.{span, cut, outputBits, outputLimit}
+use Rattle.geometry.specs.Geometry.{outputBits, outputLimit}
 use Rattle.geometry.proofs.Geometry.{paged, least-output}
 use Rattle.lookup.specs.declared.Next.the-variants as next
 use Rattle.lookup.specs.Trace.{End, fault, leaf}
@@ -21,14 +21,13 @@ use Rattle.lookup.specs.Steps.{decoded, contextOf}
 use Rattle.lookup.proofs.Decoding.{is-leaf, output-below}
 use Rattle.permission.specs.Permission.{flagFails, alignmentFails, permissionFails}
 use Rattle.decision.specs.Decision.{flagDue, dirtyDue, updated, outputOf, failing, passing, decision}
-use Rattle.stepwise.specs.declared.Due.{Due}
 use Rattle.stepwise.specs.declared.Due.the-variants as due
 use Rattle.stepwise.specs.declared.Wanting.{Wanting}
 use Rattle.stepwise.specs.Stepwise.{Ended, conclusion, declined, dueOf, leafAt}
 use Rattle.rules.specs.Rule2.{FlagUpdate, DirtyUpdate}
 use Rattle.rules.proofs.Walks.{told}
 use Rattle.rules.proofs.Updates.{updated-other, updated-af, updated-ap2, flag-due, dirty-due}
-use Rattle.rules_stepwise.specs.Promised.{Made, Says}
+use Rattle.rules_stepwise.specs.Promised.{Says}
 use Rattle.rules_stepwise.proofs.Lefts.{saysAt}
 
 -- what every end says of its update, and of its output address
@@ -99,3 +98,19 @@ fine-fault r a n kind level = (λ s e. clash (cc), λ s e. clash (cc))
 pub fine-leaf : (w : Wanting) (n v : ℕ) → saysAt w v ≡ next.Leaf → Fine (w .regime) (w .access) (conclusion (w .regime) (w .access) n (leaf (w .address .0) (leafAt w v)))
 unfolding contextOf
 fine-leaf w n v d = (leaf-says (w .regime) (w .access) (w .address .0) (leafAt w v) n, leaf-below (w .regime) (w .access) (w .address .0) (leafAt w v) n d)
+
+-- ---- what is concluded is no refusal
+
+not-refused : (r : Regime) (a : Access) (l : Leaf) (n k : ℕ) → decision r a l n .result ≡ refusedWith k → ⊥
+unfolding decision failing passing
+not-refused r a l n k = by (flagFails r l) (alignmentFails r a l) (permissionFails r a l)
+  where
+    by : (x y z : Bool) → pick x (failing l n AccessFlag) (pick y (failing l n Alignment) (pick z (failing l n Permission) (passing r a l n))) .result ≡ refusedWith k → ⊥
+    by true y z e = clash (cc)
+    by false true z e = clash (cc)
+    by false false true e = clash (cc)
+    by false false false e = clash (cc)
+
+pub conclusion-answers : (r : Regime) (a : Access) (n : ℕ) (x : End) (k : ℕ) → conclusion r a n x .result ≡ refusedWith k → ⊥
+conclusion-answers r a n (fault kind level) k e = clash (cc)
+conclusion-answers r a n (leaf at l) k e = not-refused r a l n k e

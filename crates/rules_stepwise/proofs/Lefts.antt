@@ -1,7 +1,6 @@
 -- What an offer leaves of a walk that wants a descriptor, case by case; and what the walk still has before it, over a reader.
-use Prim.Native.Nat.{ℕ, suc, _+_, _-_, _≤_, _<_, min}
-use mathlib.Core.List.{List}
-use mathlib.Core.Path.{_≡_, refl, sym, ap, ap₂, _∙_}
+use Prim.Native.Nat.{ℕ, suc, _-_, _≤_, _<_}
+use mathlib.Core.Path.{_≡_, refl, sym, ap, _∙_}
 use native.Mathlib.Nat.{min-eq-left, min-le-right}
 use native.Mathlib.Omega.{arith}
 use Rattle.vmsa.specs.Fields.{withTable}
@@ -18,13 +17,13 @@ use Rattle.lookup.specs.declared.Word.{Word}
 use Rattle.lookup.specs.declared.Word.the-variants.{Value, Unreachable}
 use Rattle.lookup.specs.declared.Next.{Next}
 use Rattle.lookup.specs.declared.Next.the-variants as next
-use Rattle.lookup.specs.Trace.{End, fault, leaf, Trace, ended as endedTrace, visit}
+use Rattle.lookup.specs.Trace.{fault, leaf, Trace, ended as endedTrace, visit}
 use Rattle.lookup.specs.Steps.{decoded, entryAt, onWord, followed, entered, descend}
 use Rattle.lookup.specs.Steps as steps
 use Rattle.lookup.proofs.Decoding.{table-above}
 use Rattle.lookup.proofs.Levels.{down-up}
 use Rattle.stepwise.specs.declared.Wanting.{Wanting}
-use Rattle.stepwise.specs.Stepwise.{Progress, wanting, ended, declined, wantingEntry, firstOf, leftAt, leafAt, concluded, onward, contextAt, taken, offeredBy, offered}
+use Rattle.stepwise.specs.Stepwise.{Progress, wanting, ended, declined, wantingEntry, leftAtStart, leftAt, leafAt, endedAt, afterValue, contextAt, taken, offeredBy, offered}
 
 -- what the descriptor v says at the level of the one that is wanted
 abbrev pub saysAt : Wanting → ℕ → Next
@@ -36,16 +35,16 @@ below w v table = wantingEntry (w .regime) (w .access) (leftAt w - 1) (withTable
 
 pub data Left (w : Wanting) (o : Word) : Progress → Type 0 where
   refused : (x : Refusal) → startCheck (w .regime) (w .access) ≡ Refused x → Left w o (ended (declined x))
-  aborted : startCheck (w .regime) (w .access) ≡ Accepted → o ≡ Unreachable → Left w o (concluded w (fault ExternalAbort (levelOf (leftAt w))))
-  faulted : startCheck (w .regime) (w .access) ≡ Accepted → (v : ℕ) → o ≡ Value v → (kind : FaultKind) → saysAt w v ≡ next.Fault kind → Left w o (concluded w (fault kind (levelOf (leftAt w))))
+  aborted : startCheck (w .regime) (w .access) ≡ Accepted → o ≡ Unreachable → Left w o (endedAt w (fault ExternalAbort (levelOf (leftAt w))))
+  faulted : startCheck (w .regime) (w .access) ≡ Accepted → (v : ℕ) → o ≡ Value v → (kind : FaultKind) → saysAt w v ≡ next.Fault kind → Left w o (endedAt w (fault kind (levelOf (leftAt w))))
   deeper : startCheck (w .regime) (w .access) ≡ Accepted → (v : ℕ) → o ≡ Value v → (table : PhysAddr) → saysAt w v ≡ next.Table table → Left w o (wanting (below w v table))
-  reached : startCheck (w .regime) (w .access) ≡ Accepted → (v : ℕ) → o ≡ Value v → saysAt w v ≡ next.Leaf → Left w o (concluded w (leaf (w .address .0) (leafAt w v)))
+  reached : startCheck (w .regime) (w .access) ≡ Accepted → (v : ℕ) → o ≡ Value v → saysAt w v ≡ next.Leaf → Left w o (endedAt w (leaf (w .address .0) (leafAt w v)))
 
 pub left-by : (w : Wanting) (o : Word) → Left w o (offered w o)
 unfolding offered
 left-by w o = by (startCheck (w .regime) (w .access)) refl
   where
-    on-next : startCheck (w .regime) (w .access) ≡ Accepted → (v : ℕ) → o ≡ Value v → (x : Next) → saysAt w v ≡ x → Left w o (onward w v x)
+    on-next : startCheck (w .regime) (w .access) ≡ Accepted → (v : ℕ) → o ≡ Value v → (x : Next) → saysAt w v ≡ x → Left w o (afterValue w v x)
     on-next c v e (next.Fault kind) d = faulted c v e kind d
     on-next c v e (next.Table table) d = deeper c v e table d
     on-next c v e next.Leaf d = reached c v e d
@@ -60,9 +59,9 @@ left-by w o = by (startCheck (w .regime) (w .access)) refl
 
 -- ---- the levels left
 
-pub left-most : (w : Wanting) → leftAt w ≤ firstOf w
+pub left-most : (w : Wanting) → leftAt w ≤ leftAtStart w
 unfolding leftAt
-left-most w = min-le-right (w .left) (firstOf w)
+left-most w = min-le-right (w .left) (leftAtStart w)
 
 -- one level lower, where a table says so
 module _ (w : Wanting) (v : ℕ) (table : PhysAddr) (d : saysAt w v ≡ next.Table table) where
@@ -71,7 +70,7 @@ module _ (w : Wanting) (v : ℕ) (table : PhysAddr) (d : saysAt w v ≡ next.Tab
 
   pub left-below : leftAt (below w v table) ≡ leftAt w - 1
   unfolding leftAt
-  left-below = min-eq-left (let h = left-most w in let k : leftAt w - 1 ≤ firstOf w = omega arith in k)
+  left-below = min-eq-left (let h = left-most w in let k : leftAt w - 1 ≤ leftAtStart w = omega arith in k)
 
 -- ---- what is before a walk, over a reader
 

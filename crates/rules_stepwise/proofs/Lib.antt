@@ -2,7 +2,6 @@ pub mod Lefts
 pub mod Chains
 pub mod Starts
 pub mod Agreeing
-pub mod Unheard
 pub mod Ended
 pub mod Pools
 pub mod Promises

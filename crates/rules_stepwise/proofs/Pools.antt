@@ -1,17 +1,15 @@
 -- Over what a pool holds, the end of the plain walk over that reader is the plain walk of the memory.
-use Prim.Native.Nat.{ℕ, _+_, _-_, _≤_}
+use Prim.Native.Nat.{ℕ, _+_, _-_}
 use mathlib.Core.Bool.{Bool, true, false}
 use mathlib.Core.List.{List}
-use mathlib.Core.Path.{_≡_, refl, sym, ap, subst, subst⁻¹, _∙_}
+use mathlib.Core.Path.{_≡_, refl, ap, subst, subst⁻¹, _∙_}
 use native.Mathlib.Omega.{arith}
 use lib.ListN.{length}
 use Rattle.descriptor.specs.Bytes.{put}
 use Rattle.descriptor.specs.Bits.{pick}
-use Rattle.vmsa.specs.Answers.{refused, numberOf}
 use Rattle.vmsa.specs.declared.Regime.{Regime}
 use Rattle.vmsa.specs.declared.Access.{Access}
 use Rattle.vmsa.specs.declared.Leaf.{Leaf}
-use Rattle.vmsa.specs.declared.Refusal.{Refusal}
 use Rattle.refusals.specs.Tests.{memoryPoolBad, poolAddressBad}
 use Rattle.checks.specs.declared.Checked.{Checked}
 use Rattle.checks.specs.declared.Checked.the-variants.{Accepted, Refused}
@@ -22,15 +20,14 @@ use Rattle.lookup.specs.Steps.{locate}
 use Rattle.decision.specs.Decision.{Decision, decision}
 use Rattle.walk.specs.Walk.{Outcome, poolBytes, withPoolBytes, concluded, traced, walkPool, walk}
 use Rattle.walk.proofs.Ends.{ready}
-use Rattle.walk.proofs.Parts.{with-own, with-put, length-part}
-use Rattle.stepwise.specs.declared.Due.{Due}
+use Rattle.walk.proofs.Parts.{with-own, with-put}
 use Rattle.stepwise.specs.declared.Due.the-variants as due
-use Rattle.stepwise.specs.Stepwise.{Ended, conclusion, declined, dueOf}
+use Rattle.stepwise.specs.Stepwise.{Ended, conclusion, dueOf}
 use Rattle.rules.specs.Tables.{traceOf, readerOf}
-use Rattle.rules.specs.Rule2.{LeafOf, offset, Placed}
+use Rattle.rules.specs.Rule2.{LeafOf}
 use Rattle.rules.proofs.Walks.{walk-refused, walk-taken, leaf-found, leaf-placed, pool-long}
 use Rattle.rules_stepwise.specs.Feeds.{Plain, along, plainOver}
-use Rattle.rules_stepwise.specs.Promised.{offsetOf, withDue, StandsAt, Expected}
+use Rattle.rules_stepwise.specs.Promised.{withDue, StandsAt, Expected}
 use Rattle.rules_stepwise.proofs.Starts.{plain-refused, plain-walked}
 
 -- the end e is the plain walk of the memory

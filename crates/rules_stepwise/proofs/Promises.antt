@@ -19,19 +19,18 @@ use Rattle.lookup.specs.declared.First.the-variants as first
 use Rattle.lookup.specs.Trace.{End, fault, leaf}
 use Rattle.lookup.specs.Steps.{leftAtFirst, firstTable}
 use Rattle.stepwise.specs.declared.Wanting.{Wanting}
-use Rattle.stepwise.specs.Stepwise.{Ended, Progress, wanting, ended, conclusion, declined, wantingEntry, begun, start, leftAt, readsAt, leafAt, concluded, offered}
+use Rattle.stepwise.specs.Stepwise.{Ended, Progress, wanting, ended, conclusion, declined, wantingEntry, begun, start, leftAt, readsAt, leafAt, endedAt, offered}
 use Rattle.stepwise.proofs.Laws.{start-refused, start-begun}
 use Rattle.rules.specs.Rule1.{FirstNumber}
 use Rattle.rules.proofs.Refusals.{first-refuses, refuses-first}
 use Rattle.rules.specs.Tables.{readerOf}
 use Rattle.rules_stepwise.specs.Feeds.{Offer, named, Functions, Offering, Fed, none-yet, more, addresses, Reads, Plain, plainOver}
-use Rattle.rules_stepwise.specs.Promised.{Agree, Ends, Walks}
+use Rattle.rules_stepwise.specs.Promised.{elsewhere, Agree, Ends, Walks}
 use Rattle.rules_stepwise.proofs.Lefts.{below, Left, refused, aborted, faulted, deeper, reached, left-by}
 use Rattle.rules_stepwise.proofs.Chains.{stops, lasts-any}
 use Rattle.rules_stepwise.proofs.Starts.{Beside, beside}
-use Rattle.rules_stepwise.proofs.Agreeing.{same-plain}
-use Rattle.rules_stepwise.proofs.Unheard.{plain-elsewhere, concluded-answers}
-use Rattle.rules_stepwise.proofs.Ended.{Fine, fine-refused, fine-fault, fine-leaf}
+use Rattle.rules_stepwise.proofs.Agreeing.{agree-same, plain-elsewhere}
+use Rattle.rules_stepwise.proofs.Ended.{Fine, fine-refused, fine-fault, fine-leaf, conclusion-answers}
 use Rattle.rules_stepwise.proofs.Pools.{IsWalk, plain-walk}
 
 module _ {S : Type 0} (see : S → Progress) (F : Functions S) (L : Offering see F) where
@@ -40,7 +39,7 @@ module _ {S : Type 0} (see : S → Progress) (F : Functions S) (L : Offering see
     four = λ s t offers f. lasts-any see F L f .0;
     wants = λ s t offers f a h. lasts-any see F L f .1 a h;
     late = λ s e q o t n f. L .late s o t n f e q;
-    taken = λ s a h o t n f. by s a h o t n f (see s) refl;
+    accepted = λ s a h o t n f. by s a h o t n f (see s) refl;
   }
     where
       by : (s : S) (a : ℕ) → named (see s) ≡ some a → (o : Word) (t : S) (n : ℕ) → F s o t n → (p : Progress) → see s ≡ p → n ≡ 0
@@ -52,11 +51,11 @@ module _ {S : Type 0} (see : S → Progress) (F : Functions S) (L : Offering see
   answers w q c none-yet e h k x = clash (let z : wanting w ≡ ended e = sym q ∙ h in cc)
   answers {u = u} w q c (more {t = t} {a = a} {n = n} {o = o} {offers = offers} m f rest) e h k x = by (λ w′ g d. answers w′ g d rest e h k x) (offered w o) (L .goes _ o t n f w q .0) (left-by w o)
     where
-      last : (y : End) → see t ≡ concluded w y → ⊥
+      last : (y : End) → see t ≡ endedAt w y → ⊥
       last y g =
           let z : ended (conclusion (w .regime) (w .access) (readsAt w) y) ≡ ended e = sym (stops see F L (conclusion (w .regime) (w .access) (readsAt w) y) g rest .1) ∙ h in
           let d : conclusion (w .regime) (w .access) (readsAt w) y ≡ e = cc in
-          concluded-answers (w .regime) (w .access) (readsAt w) y k (ap (λ (v : Ended). v .result) d ∙ x)
+          conclusion-answers (w .regime) (w .access) (readsAt w) y k (ap (λ (v : Ended). v .result) d ∙ x)
 
       by : ((w′ : Wanting) → see t ≡ wanting w′ → startCheck (w′ .regime) (w′ .access) ≡ Accepted → ⊥) → (p : Progress) → see t ≡ p → Left w o p → ⊥
       by again p g (refused y d) = clash (let z : Refused y ≡ Accepted = sym d ∙ c in cc)
@@ -106,7 +105,7 @@ module _ {S : Type 0} (see : S → Progress) (F : Functions S) (L : Offering see
     on-first c (first.Fault kind) g e h k x =
         let z : ended (conclusion r a 0 (fault kind 0)) ≡ ended e = sym g ∙ h in
         let d : conclusion r a 0 (fault kind 0) ≡ e = cc in
-        concluded-answers r a 0 (fault kind 0) k (ap (λ (v : Ended). v .result) d ∙ x)
+        conclusion-answers r a 0 (fault kind 0) k (ap (λ (v : Ended). v .result) d ∙ x)
     on-first c (first.Table root) g e h k x = clash (let z : begun r a (first.Table root) ≡ ended e = sym g ∙ h in cc)
 
     refused-by : (k : ℕ) (e : Ended) → see s ≡ ended e → e .result ≡ refusedWith k → FirstNumber (startRows r a) k
@@ -163,11 +162,11 @@ module _ {S : Type 0} (see : S → Progress) (F : Functions S) (L : Offering see
       pool = λ m g k t offers f z e h. subst (IsWalk r a m) (sym (at-end (readerOf r m) t offers f z e h .1)) (plain-walk r a m g k);
       unheard = λ p ee read t offers f z e h.
           let b = at-end read t offers f z e h in
-          let w = sym (plain-elsewhere r p ee a read) in
+          let w = sym (plain-elsewhere r p ee read read a (agree-same read (plainOver (elsewhere r p ee) a read .visited))) in
           (b .0 ∙ ap (λ (x : Plain). x .visited) w, b .1 ∙ ap (λ (x : Plain). x .end) w);
       alike = λ read read2 t t2 offers offers2 f z f2 z2 k e e2 h h2.
           let b = at-end read t offers f z e h in
           let b2 = at-end read2 t2 offers2 f2 z2 e2 h2 in
-          let p = same-plain r a read read2 (subst (Agree read read2) (b .0) k) in
+          let p = plain-elsewhere r (r .pool) (r .ee) read read2 a (subst (Agree read read2) (b .0) k) in
           (b .0 ∙ ap (λ (x : Plain). x .visited) p ∙ sym (b2 .0), b .1 ∙ ap (λ (x : Plain). x .end) p ∙ sym (b2 .1));
     }

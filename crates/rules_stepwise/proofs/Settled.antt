@@ -1,12 +1,11 @@
 -- The contracts of the walk by value leave nothing open: no two results meet one, and nobody has to check first.
 use Prim.Native.Nat.{ℕ}
-use mathlib.Core.Path.{_≡_, refl, sym, ap, subst⁻¹, _∙_}
+use mathlib.Core.Path.{_≡_, sym, ap, subst⁻¹, _∙_}
 use lib.Dec.{lit≤}
 use Rattle.descriptor.proofs.Tests.{clash}
 use Rattle.vmsa.proofs.Answers.{LowIn, view-settles}
 use Rattle.vmsa.specs.declared.Regime.{Regime}
 use Rattle.vmsa.specs.declared.Access.{Access}
-use Rattle.vmsa.specs.declared.Answer.{Answer}
 use Rattle.checks.specs.declared.Checked.{Checked}
 use Rattle.checks.specs.declared.Checked.the-variants.{Accepted, Refused}
 use Rattle.checks.specs.Order.{startCheck}
@@ -17,7 +16,6 @@ use Rattle.lookup.specs.declared.First.the-variants as first
 use Rattle.lookup.specs.Steps.{firstTable}
 use Rattle.lookup.proofs.Packing.{level-le}
 use Rattle.walk.proofs.Settled.{low-decision}
-use Rattle.stepwise.specs.declared.Due.{Due}
 use Rattle.stepwise.specs.declared.Wanting.{Wanting}
 use Rattle.stepwise.specs.declared.Conclusion.{Conclusion}
 use Rattle.stepwise.specs.declared.Stepwise.{Stepwise}

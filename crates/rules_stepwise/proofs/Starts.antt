@@ -1,6 +1,5 @@
 -- A walk that was started and is fed by a reader: what it has named, and how it ends, beside the plain walk over that reader.
-use Prim.Native.Nat.{ℕ, zero, suc, _+_, _-_, min}
-use mathlib.Core.Bool.{Bool}
+use Prim.Native.Nat.{ℕ, _+_, _-_}
 use mathlib.Core.List.{List, [], _∷_, _++_}
 use mathlib.Core.Path.{_≡_, refl, sym, ap, subst, subst⁻¹, _∙_}
 use native.Mathlib.Nat.{min-eq-left, le-refl}
@@ -21,7 +20,7 @@ use Rattle.lookup.specs.Trace.{fault, Trace, endUnderHpd, underHpd}
 use Rattle.lookup.specs.Steps.{contextOf, rangeOf, leftAtFirst, firstTable, locate, entryAt}
 use Rattle.lookup.proofs.Levels.{locate-first}
 use Rattle.stepwise.specs.declared.Wanting.{Wanting}
-use Rattle.stepwise.specs.Stepwise.{Ended, Progress, wanting, ended, conclusion, declined, wantingEntry, begun, start, firstOf, leftAt}
+use Rattle.stepwise.specs.Stepwise.{Ended, Progress, wanting, ended, conclusion, declined, wantingEntry, begun, start, leftAt}
 use Rattle.stepwise.proofs.Laws.{start-refused, start-begun}
 use Rattle.rules_stepwise.specs.Feeds.{Offer, Functions, Offering, Fed, addresses, Reads, Plain, along, plainBy, plainOver}
 use Rattle.rules_stepwise.proofs.Lefts.{entryTrace, descend-entry, restOf}

@@ -11,9 +11,7 @@ use Rattle.vmsa.specs.Words.{flag, regimeOf, regimeSpare0}
 use Rattle.vmsa.specs.Fields.{sumCount}
 use Rattle.vmsa.specs.Answers.{Result, numberOf}
 use Rattle.vmsa.proofs.Tables.{sum-below}
-use Rattle.vmsa.specs.declared.Regime.{Regime}
 use Rattle.vmsa.specs.declared.RegimeWords.{RegimeWords}
-use Rattle.vmsa.specs.declared.Access.{Access}
 use Rattle.vmsa.specs.declared.Refusal.the-variants.{WalkEnded}
 use Rattle.checks.specs.declared.Checked.{Checked}
 use Rattle.checks.specs.declared.Checked.the-variants.{Accepted, Refused}
@@ -36,12 +34,10 @@ use Rattle.words.specs.declared.AnswerWords.{AnswerWords}
 use Rattle.words.specs.Words.{accessOf, accessSpare0, wordsOf}
 use Rattle.step_words.specs.declared.StepwiseWords.{StepwiseWords}
 use Rattle.step_words.specs.declared.OfferedWords.{OfferedWords}
-use Rattle.step_words.specs.Words.{wantingOf, endWords, progressWords, startWords, offering, offerWords}
-use Rattle.capi_stepwise.specs.Says.{StartSays}
-use Rattle.rules_c.specs.Readings.{resultIn}
+use Rattle.step_words.specs.Words.{wantingOf, endWords, progressWords, offerGives, offerWords}
 use Rattle.rules_c.proofs.Numbers.{result-in}
-use Rattle.rules_stepwise.specs.Feeds.{Offer, Offering, Fed, none-yet, more, Reads}
-use Rattle.rules_stepwise.specs.Code.{Begun, replyNumber, Made, valued, unreached, EndsOfCode, WalksOfCode, endIn, walkIn, MadeC, valued-c, unreached-c, EndsOfC, WalksOfC, NumbersOfC, StartedOfC, SpareOfStart}
+use Rattle.rules_stepwise.specs.Feeds.{Offer, Offering, Fed, none-yet, more}
+use Rattle.rules_stepwise.specs.Code.{replyNumber, Made, valued, unreached, EndsOfCode, WalksOfCode, endIn, walkIn, MadeC, valued-c, unreached-c, EndsOfC, WalksOfC, StartedOfC, SpareOfStart}
 use Rattle.rules_stepwise.proofs.Lefts.{Left, refused, aborted, faulted, deeper, reached, left-by}
 use Rattle.rules_stepwise.proofs.Promises.{ends, walks}
 
@@ -125,7 +121,7 @@ unfolding walkIn
 says-goes w o x h true e v q = clash (let z : ended (endIn w) ≡ wanting v = sym (ap (λ (b : Bool). pick b (ended (endIn w)) (wanting (wantingOf w))) e) ∙ q in cc)
 says-goes w o x h false e v q =
     let p = offered (wantingOf w) o in
-    let k : x ≡ offering 0 (progressWords (w .regime) (w .access) p) = h ∙ ap (λ (b : Bool). pick b (offering (numberOf WalkEnded) w) (offering 0 (progressWords (w .regime) (w .access) p))) e in
+    let k : x ≡ offerGives 0 (progressWords (w .regime) (w .access) p) = h ∙ ap (λ (b : Bool). pick b (offerGives (numberOf WalkEnded) w) (offerGives 0 (progressWords (w .regime) (w .access) p))) e in
     let z : wanting (wantingOf w) ≡ wanting v = sym (ap (λ (b : Bool). pick b (ended (endIn w)) (wanting (wantingOf w))) e) ∙ q in
     let y : wantingOf w ≡ v = cc in (
       ap (λ (t : OfferedWords). walkIn (t .walk)) k ∙ read-back (w .regime) (w .access) p (of-left w o p (left-by (wantingOf w) o)) ∙ ap (λ (n : Wanting). offered n o) y,
@@ -137,19 +133,19 @@ unfolding walkIn
 says-late w o x h false e n q = clash (let z : wanting (wantingOf w) ≡ ended n = sym (ap (λ (b : Bool). pick b (ended (endIn w)) (wanting (wantingOf w))) e) ∙ q in cc)
 says-late w o x h true e n q =
     let p = offered (wantingOf w) o in
-    let k : x ≡ offering (numberOf WalkEnded) w = h ∙ ap (λ (b : Bool). pick b (offering (numberOf WalkEnded) w) (offering 0 (progressWords (w .regime) (w .access) p))) e in
+    let k : x ≡ offerGives (numberOf WalkEnded) w = h ∙ ap (λ (b : Bool). pick b (offerGives (numberOf WalkEnded) w) (offerGives 0 (progressWords (w .regime) (w .access) p))) e in
     (ap (λ (t : OfferedWords). t .walk) k, ap (λ (t : OfferedWords). t .refusal) k)
 
 made-offering-c : Offering walkIn MadeC
 made-offering-c = record { goes = goes; late = late }
   where
     goes : (s : StepwiseWords) (o : Word) (t : StepwiseWords) (n : ℕ) → MadeC s o t n → (w : Wanting) → walkIn s ≡ wanting w → (walkIn t ≡ offered w o) × (n ≡ 0)
-    goes _ _ _ _ (valued-c s v t n h) w q = says-goes s (Value v) (offering n t) h (flag (s .ended)) refl w q
-    goes _ _ _ _ (unreached-c s t n h) w q = says-goes s Unreachable (offering n t) h (flag (s .ended)) refl w q
+    goes _ _ _ _ (valued-c s v t n h) w q = says-goes s (Value v) (offerGives n t) h (flag (s .ended)) refl w q
+    goes _ _ _ _ (unreached-c s t n h) w q = says-goes s Unreachable (offerGives n t) h (flag (s .ended)) refl w q
 
     late : (s : StepwiseWords) (o : Word) (t : StepwiseWords) (n : ℕ) → MadeC s o t n → (e : Ended) → walkIn s ≡ ended e → (t ≡ s) × (n ≡ numberOf WalkEnded)
-    late _ _ _ _ (valued-c s v t n h) e q = says-late s (Value v) (offering n t) h (flag (s .ended)) refl e q
-    late _ _ _ _ (unreached-c s t n h) e q = says-late s Unreachable (offering n t) h (flag (s .ended)) refl e q
+    late _ _ _ _ (valued-c s v t n h) e q = says-late s (Value v) (offerGives n t) h (flag (s .ended)) refl e q
+    late _ _ _ _ (unreached-c s t n h) e q = says-late s Unreachable (offerGives n t) h (flag (s .ended)) refl e q
 
 pub ends-c : EndsOfC
 ends-c = ends walkIn MadeC made-offering-c
@@ -183,8 +179,8 @@ settled-offer g a w o x h e = by (flag (w .ended)) refl
     same : (w .regime ≡ g) × (w .access ≡ a)
     same = (ap (λ (t : StepwiseWords). t .regime) h ∙ kept g a (walkIn w) .0, ap (λ (t : StepwiseWords). t .access) h ∙ kept g a (walkIn w) .1)
 
-    is : (b : Bool) → flag (w .ended) ≡ b → x ≡ pick b (offering (numberOf WalkEnded) w) (offering 0 (progressWords (w .regime) (w .access) (offered (wantingOf w) o)))
-    is b k = e ∙ ap (λ (y : Bool). pick y (offering (numberOf WalkEnded) w) (offering 0 (progressWords (w .regime) (w .access) (offered (wantingOf w) o)))) k
+    is : (b : Bool) → flag (w .ended) ≡ b → x ≡ pick b (offerGives (numberOf WalkEnded) w) (offerGives 0 (progressWords (w .regime) (w .access) (offered (wantingOf w) o)))
+    is b k = e ∙ ap (λ (y : Bool). pick y (offerGives (numberOf WalkEnded) w) (offerGives 0 (progressWords (w .regime) (w .access) (offered (wantingOf w) o)))) k
 
     by : (b : Bool) → flag (w .ended) ≡ b → Settled g a (x .walk)
     by true k = subst (λ (t : StepwiseWords). Settled g a t) (sym (ap (λ (y : OfferedWords). y .walk) (is true k))) h
@@ -193,8 +189,8 @@ settled-offer g a w o x h e = by (flag (w .ended)) refl
         (settled-by (w .regime) (w .access) (offered (wantingOf w) o) (x .walk) (of-left w o (offered (wantingOf w) o) (left-by (wantingOf w) o)) (ap (λ (y : OfferedWords). y .walk) (is false k))))
 
 settled-made : (g : RegimeWords) (a : AccessWords) (s : StepwiseWords) (o : Word) (t : StepwiseWords) (n : ℕ) → Settled g a s → MadeC s o t n → Settled g a t
-settled-made g a _ _ _ _ h (valued-c s v t n k) = settled-offer g a s (Value v) (offering n t) h k
-settled-made g a _ _ _ _ h (unreached-c s t n k) = settled-offer g a s Unreachable (offering n t) h k
+settled-made g a _ _ _ _ h (valued-c s v t n k) = settled-offer g a s (Value v) (offerGives n t) h k
+settled-made g a _ _ _ _ h (unreached-c s t n k) = settled-offer g a s Unreachable (offerGives n t) h k
 
 settled-fed : (g : RegimeWords) (a : AccessWords) {s t : StepwiseWords} {offers : List Offer} → Settled g a s → Fed walkIn MadeC s offers t → Settled g a t
 settled-fed g a h none-yet = h

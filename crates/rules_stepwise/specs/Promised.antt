@@ -51,7 +51,7 @@ Expected r m (due.Update u) = StandsAt r m (u .address) (u .expected)
 
 -- what an end says of its update (RULES 8 and 16.4): one is due exactly where the answer is a success that sets the Access flag or makes the page dirty, and it does that,
 -- from the value expected to the new one, and changes no other bit
-pub record Made (r : Regime) (a : Access) (x : Success) (v w : ℕ) : Type 0 where
+pub record LeafUpdate (r : Regime) (a : Access) (x : Success) (v w : ℕ) : Type 0 where
   pub some : (x .accessed || x .dirtied) ≡ true
   pub flag : FlagUpdate r a v w (x .accessed)
   pub dirty : DirtyUpdate r a v w (x .dirtied)
@@ -59,7 +59,7 @@ pub record Made (r : Regime) (a : Access) (x : Success) (v w : ℕ) : Type 0 whe
 
 abbrev pub Says : Regime → Access → Result → Due → Type 0
 Says r a result due.Nothing = (x : Success) → result ≡ success x → (x .accessed ≡ false) × (x .dirtied ≡ false)
-Says r a result (due.Update u) = (x : Success) × (result ≡ success x) × Made r a x (u .expected) (u .value)
+Says r a result (due.Update u) = (x : Success) × (result ≡ success x) × LeafUpdate r a x (u .expected) (u .value)
 
 -- a regime with another pool, and in either byte order
 abbrev pub elsewhere : Regime → Pool → Bool → Regime
@@ -79,9 +79,9 @@ module _ {S : Type 0} (see : S → Progress) (F : Functions S) where
     -- after the end every offer is refused with 12, and leaves the walk as it was
     pub late : (s : S) (e : Ended) → see s ≡ ended e → (o : Word) (t : S) (n : ℕ) → F s o t n → (t ≡ s) × (n ≡ numberOf WalkEnded)
     -- before it none is refused
-    pub taken : (s : S) (a : ℕ) → named (see s) ≡ some a → (o : Word) (t : S) (n : ℕ) → F s o t n → n ≡ 0
+    pub accepted : (s : S) (a : ℕ) → named (see s) ≡ some a → (o : Word) (t : S) (n : ℕ) → F s o t n → n ≡ 0
 
-  -- of a walk s that was started with the regime r and the access a, and fed by a reader
+  -- of a walk s that was started with the regime r and the access a; where `Reads` stands, one that was fed by a reader
   pub record Walks (r : Regime) (a : Access) (s : S) : Type 0 where
     -- the start is refused with k exactly where the first row that applies has the number k; no walk that was fed ends in a refusal
     pub refusals : (k : ℕ) → ((e : Ended) × (see s ≡ ended e) × (e .result ≡ refused k)) ↔ FirstNumber (startRows r a) k

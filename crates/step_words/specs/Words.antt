@@ -65,10 +65,10 @@ abbrev pub startWords : RegimeWords → AccessWords → StepwiseWords
 startWords g a = progressWords (regimeSpare0 g) (accessSpare0 a) (start (regimeOf g) (accessOf a))
 
 -- what an offer leaves, part by part
-abbrev pub offering : ℕ → StepwiseWords → OfferedWords
-offering n w = record { refusal = n; walk = w }
+abbrev pub offerGives : ℕ → StepwiseWords → OfferedWords
+offerGives n w = record { refusal = n; walk = w }
 
 -- an offer: after the end 12, and the walk as it was; before it 0, and the walk that it leaves
 abbrev pub offerWords : StepwiseWords → Word → OfferedWords
 offerWords w o =
-    pick (flag (w .ended)) (offering (numberOf WalkEnded) w) (offering 0 (progressWords (w .regime) (w .access) (offered (wantingOf w) o)))
+    pick (flag (w .ended)) (offerGives (numberOf WalkEnded) w) (offerGives 0 (progressWords (w .regime) (w .access) (offered (wantingOf w) o)))

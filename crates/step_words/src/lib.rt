@@ -4,7 +4,7 @@ ghost use Rattle.vmsa.specs.Answers.{numberOf, view};
 ghost use Rattle.vmsa.specs.declared.Refusal.the-variants.{WalkEnded};
 ghost use Rattle.lookup.specs.declared.Word.the-variants.{Value, Unreachable};
 ghost use Rattle.stepwise.specs.Stepwise.{wanting as wantingWalk, ended as endedWalk, seenEnd, seen};
-ghost use Rattle.step_words.specs.Words.{wantingOf, endNumbers, progressWords, startWords, offering, offerWords};
+ghost use Rattle.step_words.specs.Words.{wantingOf, endNumbers, progressWords, startWords, offerGives, offerWords};
 use stepwise::Conclusion;
 use stepwise::Due;
 use stepwise::Stepwise;
@@ -145,7 +145,7 @@ fn wanting_of(w: StepwiseWords) -> Wanting
 
 // An offer to a walk that has ended.
 fn refused_words(w: StepwiseWords) -> OfferedWords
-    ensures { λ x. ⌜ x ≡ offering (numberOf WalkEnded) w ⌝ }
+    ensures { λ x. ⌜ x ≡ offerGives (numberOf WalkEnded) w ⌝ }
 {
     let refusal = Refusal::WalkEnded;
     OfferedWords {

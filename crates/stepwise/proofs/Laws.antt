@@ -36,7 +36,7 @@ use Rattle.stepwise.specs.declared.Due.the-variants as due
 use Rattle.stepwise.specs.declared.Conclusion.{Conclusion}
 use Rattle.stepwise.specs.declared.Stepwise.{Stepwise}
 use Rattle.stepwise.specs.declared.Stepwise.the-variants as stepwise
-use Rattle.stepwise.specs.Stepwise.{wanting, ended, conclusion, declined, wantingEntry, begun, started, start, firstOf, leftAt, readsAt, onward, contextAt, taken, offeredBy, offered, seen, Takes}
+use Rattle.stepwise.specs.Stepwise.{wanting, ended, conclusion, declined, wantingEntry, begun, started, start, leftAtStart, leftAt, readsAt, afterValue, contextAt, taken, offeredBy, offered, seen, Takes}
 
 module _ (r : Regime) (a : Access) where
   pub start-refused : (x : Refusal) → startCheck r a ≡ Refused x → start r a ≡ ended (declined x)
@@ -80,27 +80,27 @@ unfolding contextOf
 first-level r a c e range q left f root = rw (f, e, q)
 
 module _ (w : Wanting) (page first : ℕ) (range : Range) (g : range ≡ rangeOf (w .regime) (w .access .address .0)) (e : page ≡ pageBitsOf (w .regime)) (f : first ≡ firstLeft page (range .tsz)) where
-  first-is : first ≡ firstOf w
+  first-is : first ≡ leftAtStart w
   first-is = rw (f, e, g)
 
   -- above the first level, and from there on
   pub depth-first : first < w .left → (first ≡ leftAt w) × (1 ≡ readsAt w)
   unfolding leftAt readsAt
   depth-first h =
-      let e : min (w .left) (firstOf w) ≡ firstOf w = min-eq-right (let k = first-is in let l : firstOf w ≤ w .left = omega arith in l) in
+      let e : min (w .left) (leftAtStart w) ≡ leftAtStart w = min-eq-right (let k = first-is in let l : leftAtStart w ≤ w .left = omega arith in l) in
       (first-is ∙ sym e, omega (arith, e))
 
   pub depth-below : w .left ≤ first → (w .left ≡ leftAt w) × (first - w .left + 1 ≡ readsAt w)
   unfolding leftAt readsAt
   depth-below h =
-      let e : min (w .left) (firstOf w) ≡ w .left = min-eq-left (let k = first-is in let l : w .left ≤ firstOf w = omega arith in l) in
+      let e : min (w .left) (leftAtStart w) ≡ w .left = min-eq-left (let k = first-is in let l : w .left ≤ leftAtStart w = omega arith in l) in
       (sym e, omega (arith, e, first-is))
 
 -- ---- what a value gives, from what the code computed of the context and the level
 
 module _ (w : Wanting) (v : ℕ) (c : Context) (e : c ≡ contextAt w) (left : ℕ) (f : left ≡ leftAt w) where
-  at-level : (x : Next) → decoded (c .page) (c .limit .0) left v ≡ x → taken w (Value v) ≡ onward w v x
-  at-level x d = ap (onward w v) (sym (ap₂ (λ (k : Context) (n : ℕ). decoded (k .page) (k .limit .0) n v) e f) ∙ d)
+  at-level : (x : Next) → decoded (c .page) (c .limit .0) left v ≡ x → taken w (Value v) ≡ afterValue w v x
+  at-level x d = ap (afterValue w v) (sym (ap₂ (λ (k : Context) (n : ℕ). decoded (k .page) (k .limit .0) n v) e f) ∙ d)
 
   pub take-fault : (kind : FaultKind) → decoded (c .page) (c .limit .0) left v ≡ next.Fault kind → (level reads : ℕ) → level ≡ levelOf left → reads ≡ readsAt w
       → ended (conclusion (w .regime) (w .access) reads (fault kind level)) ≡ taken w (Value v)

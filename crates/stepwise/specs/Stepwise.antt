@@ -89,35 +89,35 @@ start r a = started r a (startCheck r a)
 
 module _ (w : Wanting) where
   -- the levels left at the first level, and below the descriptor that is wanted: never more than those (RULES 16.6)
-  abbrev pub firstOf : ℕ
-  firstOf = leftAtFirst (w .regime) (w .access .address .0)
+  abbrev pub leftAtStart : ℕ
+  leftAtStart = leftAtFirst (w .regime) (w .access .address .0)
 
   unfoldable pub leftAt : ℕ
-  leftAt = min (w .left) firstOf
+  leftAt = min (w .left) leftAtStart
 
   -- the count of reads with this one: one at each level, from the first on
   unfoldable pub readsAt : ℕ
-  readsAt = suc (firstOf - leftAt)
+  readsAt = suc (leftAtStart - leftAt)
 
   -- the leaf v, under the tables on the way where HPD of the address's range is off
   abbrev pub leafAt : ℕ → Leaf
   leafAt v = leafUnderHpd (rangeOf (w .regime) (w .access .address .0) .hpd) (record { value = v; left = leftAt; tables = w .tables })
 
-  abbrev pub concluded : End → Progress
-  concluded e = ended (conclusion (w .regime) (w .access) readsAt e)
+  abbrev pub endedAt : End → Progress
+  endedAt e = ended (conclusion (w .regime) (w .access) readsAt e)
 
   -- by what the descriptor v says: a table's entry is wanted next, one level lower and its bits in the sum
-  abbrev pub onward : ℕ → Next → Progress
-  onward v (next.Fault kind) = concluded (fault kind (levelOf leftAt))
-  onward v (next.Table table) = wanting (wantingEntry (w .regime) (w .access) (leftAt - 1) (withTable (w .tables) v) (table .0))
-  onward v next.Leaf = concluded (leaf (w .address .0) (leafAt v))
+  abbrev pub afterValue : ℕ → Next → Progress
+  afterValue v (next.Fault kind) = endedAt (fault kind (levelOf leftAt))
+  afterValue v (next.Table table) = wanting (wantingEntry (w .regime) (w .access) (leftAt - 1) (withTable (w .tables) v) (table .0))
+  afterValue v next.Leaf = endedAt (leaf (w .address .0) (leafAt v))
 
   abbrev pub contextAt : Context
   contextAt = contextOf (w .regime) (w .access .address .0)
 
   abbrev pub taken : Word → Progress
-  taken (Value v) = onward v (decoded (contextAt .page) (contextAt .limit .0) leftAt v)
-  taken Unreachable = concluded (fault ExternalAbort (levelOf leftAt))
+  taken (Value v) = afterValue v (decoded (contextAt .page) (contextAt .limit .0) leftAt v)
+  taken Unreachable = endedAt (fault ExternalAbort (levelOf leftAt))
 
   -- a walk under a regime or for an access that a start refuses ends with that refusal; no call leaves one (RULES 16.6)
   abbrev pub offeredBy : Word → Checked → Progress

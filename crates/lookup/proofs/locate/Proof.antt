@@ -1,5 +1,5 @@
 use borrow.Author.Needs.{needs}
-use mathlib.Core.Path.{_≡_, sym, ap, subst, _∙_}
+use mathlib.Core.Path.{sym, ap, subst, _∙_}
 use Rattle.lookup.specs.Trace.{shown}
 use Rattle.lookup.specs.Steps.{poolReader, Below}
 use Rattle.lookup.specs.declared.First.{First}
