@@ -281,30 +281,32 @@ fn walks_a_descriptor_at_a_time_are_held() {
     );
 }
 
+/// That an edit of those walks cannot be read, in these words at the end.
+fn step_refuses(old: &str, new: &str, what: &str) {
+    assert!(STEPWISE.contains(old), "{old}");
+    let told = open(&STEPWISE.replacen(old, new, 1)).err();
+    let told = told.unwrap_or_else(|| panic!("{new:?} can be read"));
+    assert!(told.ends_with(what), "{new:?}: {told}");
+}
+
 #[test]
 fn lines_of_a_walk_a_descriptor_at_a_time_are_checked() {
-    let refuses = |old: &str, new: &str, what: &str| {
-        assert!(STEPWISE.contains(old), "{old}");
-        let told = open(&STEPWISE.replacen(old, new, 1)).err();
-        let told = told.unwrap_or_else(|| panic!("{new:?} can be read"));
-        assert!(told.ends_with(what), "{new:?}: {told}");
-    };
-    refuses(
+    step_refuses(
         "feed 0x40001003",
         "feed none",
         "`none` is no NUMBER below 2^64",
     );
-    refuses("feed 0x40001003\n", "", "due is `feed`");
-    refuses("ask 0x40000000\n", "", "due is `answer`");
-    refuses("answer ok", "answer accepted", "no answer to this call");
-    refuses(
+    step_refuses("feed 0x40001003\n", "", "due is `feed`");
+    step_refuses("ask 0x40000000\n", "", "due is `answer`");
+    step_refuses("answer ok", "answer accepted", "no answer to this call");
+    step_refuses(
         "update 0x40003018",
         "update",
         "2 words after `update`, not 3",
     );
-    refuses("late 3\nlate unreachable\n", "", "due is `late`");
-    refuses("late 3", "late", "0 words after `late`, not 1");
-    refuses("late 3\n", "late 3\nupdate 1 2 3\n", "due is `end`");
+    step_refuses("late 3\nlate unreachable\n", "", "due is `late`");
+    step_refuses("late 3", "late", "0 words after `late`, not 1");
+    step_refuses("late 3\n", "late 3\nupdate 1 2 3\n", "due is `end`");
 }
 
 /// Whatever is cut off, the rest is no file, unless whole cases are left.
