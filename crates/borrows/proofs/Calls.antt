@@ -5,8 +5,10 @@
 --     Value, a-struct, a-number     a value that owns nothing; a struct of numbers is one, and a number
 --     asks xs               what a callee asks that takes the values xs alone: it is had for nothing
 --     lends met xs ys       what a callee asks that is lent something, between the values xs and ys: what the borrow owns and its token stand at the head; met, what it requires
+--     lends-both met xs ys zs     the same of one that is lent two things: xs before them, ys between them, zs after them
 --     Gave, gave            what a callee gives that changes nothing of what it was lent: its result x, of which φ holds
 --     GaveMemory, gave-memory     what a callee gives that was lent the memory for good: x, and the memory's last bytes l, of which φ holds
+--     GaveBoth, gave-both         the same of one that was lent two memories
 -- Assumes `Given`.
 use mathlib.Core.Path.{_≡_, refl, sym, ap, subst}
 use Prim.Native.Nat.{ℕ, zero, suc, _+_}
@@ -94,11 +96,21 @@ module _ {M : Type 1} {𝓤 : URA M} {H : Heap 𝓤} {A : Atoms 𝓤} {K : Type 
   pub asks : K → (xs : List (Value 𝓤 H A)) → Step K W (raw (sep 𝓤 (sep 𝓤 (emp 𝓤) (sem 𝓤 H A (Beside xs ftrue))) (emp 𝓤)) ∷ Γ) G Γ G
   asks t xs = use0 W (raw (sep 𝓤 (sep 𝓤 (emp 𝓤) (sem 𝓤 H A (Beside xs ftrue))) (emp 𝓤))) (qed W [] ∵ nothing ! $ beside ! xs $ nothing ! $ join ! $ frame ! $ done !)
 
+  -- its tokens i, what its parameters own, and what it requires, which is had for nothing
+  asked : K → {F : Fml} {i : Item 𝓤} {R : SProp 𝓤} → ent 𝓤 (emp 𝓤) R → Step K W (raw (sep 𝓤 (sep 𝓤 (mean 𝓤 H A i) (sem 𝓤 H A F)) R) ∷ Γ) G (i ∷ ‵ F ∷ Γ) G
+  asked t {F} {i} {R} met = use2 W (raw (sep 𝓤 (sep 𝓤 (mean 𝓤 H A i) (sem 𝓤 H A F)) R)) (qed W (i ∷ ‵ F ∷ []) ∵ join ! $ use0 W (raw R) met $ move ! (1 ∷ 0 ∷ []) $ frame ! $ done !)
+
+module _ {M : Type 1} {𝓤 : URA M} {H : Heap 𝓤} {A : Atoms 𝓤} {K : Type 0} {W : Given 𝓤 H A} {Γ : List (Item 𝓤)} {G : Goal 𝓤 H} where
   pub lends : K → {P : Fml} {i : Item 𝓤} {R : SProp 𝓤} → ent 𝓤 (emp 𝓤) R → (xs ys : List (Value 𝓤 H A))
       → Step K W (raw (sep 𝓤 (sep 𝓤 (sep 𝓤 (mean 𝓤 H A i) (emp 𝓤)) (sem 𝓤 H A (Beside xs (fsep P (Beside ys ftrue))))) R) ∷ Γ) G (‵ P ∷ i ∷ Γ) G
-  lends t {P} {i} {R} met xs ys = step (λ s. nothing t $ beside t ys $ move t (1 ∷ 0 ∷ []) $ fjoin t $ beside t xs $ nothing t $ move t (2 ∷ 0 ∷ []) $ join t $
-      use2 W (raw (sep 𝓤 (sep 𝓤 (sep 𝓤 (mean 𝓤 H A i) (emp 𝓤)) (sem 𝓤 H A (Beside xs (fsep P (Beside ys ftrue))))) R))
-      (qed W ((i ⊛ ‵ ftrue) ∷ ‵ (Beside xs (fsep P (Beside ys ftrue))) ∷ []) ∵ join ! $ use0 W (raw R) met $ move ! (1 ∷ 0 ∷ []) $ frame ! $ done !) $ s)
+  lends t {i = i} met xs ys = step (λ s. nothing t $ beside t ys $ move t (1 ∷ 0 ∷ []) $ fjoin t $ beside t xs $ nothing t $ move t (2 ∷ 0 ∷ []) $ join t $ asked t {i = i ⊛ ‵ ftrue} met $ s)
+
+  pub lends-both : K → {P Q : Fml} {i j : Item 𝓤} {R : SProp 𝓤} → ent 𝓤 (emp 𝓤) R → (xs ys zs : List (Value 𝓤 H A))
+      → Step K W (raw (sep 𝓤 (sep 𝓤 (sep 𝓤 (mean 𝓤 H A i) (sep 𝓤 (mean 𝓤 H A j) (emp 𝓤))) (sem 𝓤 H A (Beside xs (fsep P (Beside ys (fsep Q (Beside zs ftrue))))))) R) ∷ Γ) G (‵ P ∷ i ∷ ‵ Q ∷ j ∷ Γ) G
+  lends-both t {i = i} {j = j} met xs ys zs = step (λ s.
+      nothing t $ beside t zs $ move t (3 ∷ 0 ∷ []) $ fjoin t $ beside t ys $ move t (1 ∷ 0 ∷ []) $ fjoin t $ beside t xs $
+      -- [what the parameters own; the token of the first; that of the second]
+      nothing t $ move t (3 ∷ 0 ∷ []) $ join t $ move t (2 ∷ 0 ∷ []) $ join t $ asked t {i = i ⊛ (j ⊛ ‵ ftrue)} met $ s)
 
 -- ---- what a callee gives back
 -- what a contract binds of n parameters of which it says nothing, and then X; what it says of them, and then F
@@ -118,6 +130,22 @@ abbrev pub bytes : (k n : ℕ) → Lasts k n → List ℕ
 bytes zero n ws = ws .0
 bytes (suc k) n ws = bytes k n (ws .1)
 
+-- of k parameters, a memory, n more, another memory, and j more: the last bytes of the first, and of the second
+abbrev pub LastsBoth : ℕ → ℕ → ℕ → Type 0
+LastsBoth k n j = Silent k (List ℕ × Lasts n j)
+
+abbrev pub bytes1 : (k n j : ℕ) → LastsBoth k n j → List ℕ
+bytes1 zero n j ws = ws .0
+bytes1 (suc k) n j ws = bytes1 k n j (ws .1)
+
+abbrev pub bytes2 : (k n j : ℕ) → LastsBoth k n j → List ℕ
+bytes2 zero n j ws = bytes n j (ws .1)
+bytes2 (suc k) n j ws = bytes2 k n j (ws .1)
+
+-- what it says of k parameters and a memory, which was m and whose last bytes are l, and then F
+abbrev pub lasts : ℕ → GName → List ℕ → List ℕ → Fml → Fml
+lasts k γ m l F = silent k (fsep (fsep (finally u8 γ l) (feq ℕ (length l) (length m))) F)
+
 module _ {M : Type 1} (𝓤 : URA M) (R : RattleType) (tokens : Item 𝓤) (v : Val) where
   -- the callee has n parameters
   abbrev pub Gave : ℕ → (R .Denot → Type 0) → Item 𝓤
@@ -126,12 +154,21 @@ module _ {M : Type 1} (𝓤 : URA M) (R : RattleType) (tokens : Item 𝓤) (v : 
   -- it has k parameters before the memory, which was m, and n after it
   abbrev pub GaveMemory : ℕ → GName → List ℕ → ℕ → (R .Denot → List ℕ → Type 0) → Item 𝓤
   GaveMemory k γ m n φ = later (some (λ (x : R .Denot). (tokens ⊛ ‵ (R .own x (v ∷ []))) ⊛ some (λ (ws : Lasts k n).
-      ‵ (silent k (fsep (fsep (finally u8 γ (bytes k n ws)) (feq ℕ (length (bytes k n ws)) (length m))) (silent n ftrue))) ⊛ raw (fact 𝓤 (φ x (bytes k n ws))))))
+      ‵ (lasts k γ m (bytes k n ws) (silent n ftrue)) ⊛ raw (fact 𝓤 (φ x (bytes k n ws))))))
+
+  -- n between the two memories, and j after them
+  abbrev pub GaveBoth : ℕ → GName → List ℕ → ℕ → GName → List ℕ → ℕ → (R .Denot → List ℕ → List ℕ → Type 0) → Item 𝓤
+  GaveBoth k γ m n γ′ m′ j φ = later (some (λ (x : R .Denot). (tokens ⊛ ‵ (R .own x (v ∷ []))) ⊛ some (λ (ws : LastsBoth k n j).
+      ‵ (lasts k γ m (bytes1 k n j ws) (lasts n γ′ m′ (bytes2 k n j ws) (silent j ftrue))) ⊛ raw (fact 𝓤 (φ x (bytes1 k n j ws) (bytes2 k n j ws))))))
 
 module _ {M : Type 1} {𝓤 : URA M} {H : Heap 𝓤} {A : Atoms 𝓤} {K : Type 0} {W : Given 𝓤 H A} {G : Goal 𝓤 H} where
   past : K → {Γ : List (Item 𝓤)} (k : ℕ) {F : Fml} → Step K W (‵ F ∷ Γ) G (‵ (silent k F) ∷ Γ) G
   past t zero = step (λ s. s)
   past t (suc k) = step (λ s. fsplit t $ drop t $ past t k $ s)
+
+  -- the last bytes, as long as the memory was, out of what is said of the parameters
+  lasting : K → {Γ : List (Item 𝓤)} (k : ℕ) (γ : GName) (m l : List ℕ) {F : Fml} → (length l ≡ length m → Seq K W (‵ F ∷ ‵ (finally u8 γ l) ∷ Γ) G) → Seq K W (‵ (lasts k γ m l F) ∷ Γ) G
+  lasting t k γ m l next = past t k $ fsplit t $ fsplit t $ move t (1 ∷ []) $ feqL t (λ long. move t (1 ∷ []) $ next long)
 
 -- the machine value of a result x is `val x`
 module _ {M : Type 1} {𝓤 : URA M} {H : Heap 𝓤} {A : Atoms 𝓤} {K : Type 0} {W : Given 𝓤 H A} {C : Calls 𝓤 H} {Λ : Loops 𝓤 H} {E : Env 𝓤 H} {d : Place} {rest : Body} {q : Post 𝓤 H} (R : RattleType) (val : R .Denot → Val) (tells : Tells R (Is R) (λ x. val x ∷ [])) where
@@ -147,4 +184,11 @@ module _ {M : Type 1} {𝓤 : URA M} {H : Heap 𝓤} {A : Atoms 𝓤} {K : Type 
   pub gave-memory : K → {Γ : List (Item 𝓤)} {P : SProp 𝓤} {v : Val} (tokens : Item 𝓤) (k : ℕ) (γ : GName) (m : List ℕ) (n : ℕ) (φ : R .Denot → List ℕ → Type 0) → ent 𝓤 P (mean 𝓤 H A (GaveMemory 𝓤 R tokens v k γ m n φ))
       → ((x : R .Denot) (l : List ℕ) → φ x l → length l ≡ length m → Is R x (val x ∷ []) → Seq K W (tokens ∷ ‵ (finally u8 γ l) ∷ Γ) (lands C Λ E d (val x) rest q)) → Seq K W (raw P ∷ Γ) (lands C Λ E d v rest q)
   gave-memory t {v = v} tokens k γ m n φ given next = use1 W (GaveMemory 𝓤 R tokens v k γ m n φ) given $ await t tt $ pick t (λ x. split t $ move t (1 ∷ []) $ pick t (λ ws. split t $ move t (1 ∷ []) $ heard t (φ x (bytes k n ws)) (λ e.
-      past t k $ fsplit t $ move t (1 ∷ []) $ drop t $ fsplit t $ move t (1 ∷ []) $ feqL t (λ long. move t (1 ∷ []) $ split t $ move t (1 ∷ []) $ spelt t (λ is. next x (bytes k n ws) e long is)))))
+      lasting t k γ m (bytes k n ws) (λ long. drop t $ move t (1 ∷ []) $ split t $ move t (1 ∷ []) $ spelt t (λ is. next x (bytes k n ws) e long is)))))
+
+  pub gave-both : K → {Γ : List (Item 𝓤)} {P : SProp 𝓤} {v : Val} (tokens : Item 𝓤) (k : ℕ) (γ : GName) (m : List ℕ) (n : ℕ) (γ′ : GName) (m′ : List ℕ) (j : ℕ) (φ : R .Denot → List ℕ → List ℕ → Type 0)
+      → ent 𝓤 P (mean 𝓤 H A (GaveBoth 𝓤 R tokens v k γ m n γ′ m′ j φ))
+      → ((x : R .Denot) (l l′ : List ℕ) → φ x l l′ → length l ≡ length m → length l′ ≡ length m′ → Is R x (val x ∷ []) → Seq K W (tokens ∷ ‵ (finally u8 γ l) ∷ ‵ (finally u8 γ′ l′) ∷ Γ) (lands C Λ E d (val x) rest q))
+      → Seq K W (raw P ∷ Γ) (lands C Λ E d v rest q)
+  gave-both t {v = v} tokens k γ m n γ′ m′ j φ given next = use1 W (GaveBoth 𝓤 R tokens v k γ m n γ′ m′ j φ) given $ await t tt $ pick t (λ x. split t $ move t (1 ∷ []) $ pick t (λ ws. split t $ move t (1 ∷ []) $ heard t (φ x (bytes1 k n j ws) (bytes2 k n j ws)) (λ e.
+      lasting t k γ m (bytes1 k n j ws) (λ long. lasting t n γ′ m′ (bytes2 k n j ws) (λ long′. drop t $ move t (2 ∷ 1 ∷ []) $ split t $ move t (1 ∷ []) $ spelt t (λ is. next x (bytes1 k n j ws) (bytes2 k n j ws) e long long′ is))))))

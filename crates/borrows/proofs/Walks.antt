@@ -1,5 +1,6 @@
 -- What the walks by hand of functions over references share.
 --     apart1 .. apart4          at entry, the tokens and what the references own, one beside the other; of the parameters behind them nothing is kept
+--     apart2-1                  the same of three references, where two parameters of which nothing is kept stand before the third
 --     together1 .. together4    at exit, the tokens as one
 --     hands                     what a callee asks: what its first parameter owns, what the others own, and their tokens
 --     forks                     a branch that may return, and what comes after it
@@ -60,6 +61,10 @@ module _ {M : Type 1} {𝓤 : URA M} {H : Heap 𝓤} {A : Atoms 𝓤} {K : Type 
 module _ {M : Type 1} {𝓤 : URA M} {H : Heap 𝓤} {A : Atoms 𝓤} {K : Type 0} {W : Given 𝓤 H A} {Γ : List (Item 𝓤)} {G : Goal 𝓤 H} where
   pub apart3 : K → {P Q R Z : Fml} {i j k : Item 𝓤} → Step K W (‵ P ∷ i ∷ ‵ Q ∷ j ∷ ‵ R ∷ k ∷ Γ) G ((i ⊛ (j ⊛ (k ⊛ ‵ ftrue))) ∷ ‵ (fsep P (fsep Q (fsep R Z))) ∷ Γ) G
   apart3 t = step (λ s. next t $ apart2 t $ move t (4 ∷ 5 ∷ []) $ s)
+
+  pub apart2-1 : K → {P Q X Y R Z : Fml} {i j k : Item 𝓤}
+      → Step K W (‵ P ∷ i ∷ ‵ Q ∷ j ∷ ‵ R ∷ k ∷ Γ) G ((i ⊛ (j ⊛ (k ⊛ ‵ ftrue))) ∷ ‵ (fsep P (fsep Q (fsep X (fsep Y (fsep R Z))))) ∷ Γ) G
+  apart2-1 t = step (λ s. next t $ next t $ move t (1 ∷ []) $ fsplit t $ drop t $ fsplit t $ drop t $ move t (1 ∷ []) $ apart1 t $ move t (4 ∷ 5 ∷ 2 ∷ 3 ∷ []) $ s)
 
   pub together3 : K → {i j k : Item 𝓤} → Step K W ((i ⊛ (j ⊛ (k ⊛ ‵ ftrue))) ∷ Γ) G (i ∷ j ∷ k ∷ Γ) G
   together3 t = step (λ s. move t (1 ∷ 2 ∷ []) $ together2 t $ move t (1 ∷ 0 ∷ []) $ join t $ s)

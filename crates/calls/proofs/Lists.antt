@@ -2,26 +2,30 @@
 use Prim.Native.Nat.{ℕ}
 use mathlib.Core.List.{List, [], _∷_}
 use mathlib.Core.Logic.{_↔_}
-use mathlib.Core.Option.{Option}
+use mathlib.Core.Option.{Option, none, some}
 use mathlib.Core.Path.{_≡_, refl, sym, ap, ap₂, subst, subst⁻¹, _∙_}
 use lib.ListN.{length, getD}
 use Rattle.descriptor.proofs.Tests.{clash}
 use Rattle.vmsa.specs.declared.Regime.{Regime}
 use Rattle.vmsa.specs.Answers.{numberOf}
+use Rattle.vmsa.specs.declared.Refusal.{Refusal}
 use Rattle.checks.specs.declared.Checked.{Checked}
 use Rattle.checks.specs.declared.Checked.the-variants.{Accepted, Refused}
 use Rattle.checks.specs.Order.{firstOf, regimeRows, regimeCheck}
 use Rattle.checks.proofs.Accept.{settled}
+use Rattle.harvest.specs.Harvest.{Harvested, harvested as harvestedTo}
+use Rattle.harvest.proofs.Laws.{map-kept}
 use Rattle.rules.specs.Rule1.{FirstNumber, Managed}
 use Rattle.rules.proofs.Refusals.{refuses-first}
-use Rattle.tlb.specs.Replies.{Reply, done, refused, answered}
+use Rattle.tlb.specs.Replies.{Reply, done, refused, answered, harvested}
+use Rattle.tlb.specs.Ours.{ours}
 use Rattle.session.specs.declared.Session.{Session as SessionStruct}
-use Rattle.session.specs.Model.{Session, Handed, Call, setRegime, access, store, dropAll}
-use Rattle.session.specs.View.{regimeHeld, leaves}
-use Rattle.session.proofs.Promises.{set-promise, access-promise, store-promise, drop-promise}
+use Rattle.session.specs.Model.{Session, Handed, Call, setRegime, access, store, dropAll, harvest, harvestIn}
+use Rattle.session.specs.View.{regimeHeld, leaves, harvestLeaves}
+use Rattle.session.proofs.Promises.{set-promise, access-promise, store-promise, drop-promise, harvest-promise, harvest-handed}
 use Rattle.calls.specs.Chains.{Event, event, Functions, Leaving, Calling, Chain, none-yet, more, regimeAfter, regimeFrom}
 use Rattle.calls.specs.Rule1.{rowsOf, Reach, Rule1Event, Same, Rule1Call, EachCall, ManagedIn, Reaches, calls, replies, Rule1List, Rule1OfLists}
-use Rattle.calls.specs.Code.{Made, set-regime, accessed, stored, dropped-all, Rule1OfCall, Rule1OfCode}
+use Rattle.calls.specs.Code.{Made, set-regime, accessed, stored, dropped-all, harvested-pages, Rule1OfCall, Rule1OfCode, MapKeptOfCode}
 use Rattle.calls.proofs.Rule1.{rule-1-call, rule1-leaves}
 
 -- a call's reply, whose refusals are those of its rows
@@ -29,21 +33,23 @@ abbrev Refusals : ℕ → Option Regime → Call → Reply → Type 0
 Refusals n g c reply = (k : ℕ) → (reply ≡ refused k) ↔ FirstNumber (rowsOf n g c) k
 
 -- a regime that is accepted has HA where it has HD
-set-managed : (n : ℕ) (g : Option Regime) (r : Regime) → Refusals n g (setRegime r) done → Managed r
+set-managed : (n : ℕ) (g : Option Regime) (r : Regime) (reply : Reply) → ((k : ℕ) → reply ≡ refused k → ⊥) → Refusals n g (setRegime r) reply → Managed r
 unfolding regimeCheck
-set-managed n g r f = by (firstOf (regimeRows n r)) refl
+set-managed n g r reply accepted f = by (firstOf (regimeRows n r)) refl
   where
     by : (x : Checked) → firstOf (regimeRows n r) ≡ x → Managed r
     by Accepted e = settled n r e .managed
-    by (Refused x) e = let q : done ≡ refused (numberOf x) = f (numberOf x) .1 (x, refuses-first (regimeRows n r) x e, refl) in clash (cc)
+    by (Refused x) e = absurd (accepted (numberOf x) (f (numberOf x) .1 (x, refuses-first (regimeRows n r) x e, refl)))
 
 after-managed : (n : ℕ) (g : Option Regime) (c : Call) (reply : Reply) → Refusals n g c reply → ManagedIn g → ManagedIn (regimeAfter c reply g)
-after-managed n g (setRegime r) done f h = set-managed n g r f
+after-managed n g (setRegime r) done f h = set-managed n g r done (λ k e. clash (cc)) f
 after-managed n g (setRegime r) (refused k) f h = h
 after-managed n g (setRegime r) (answered o k) f h = h
+after-managed n g (setRegime r) (harvested map) f h = set-managed n g r (harvested map) (λ k e. clash (cc)) f
 after-managed n g (access a) reply f h = h
 after-managed n g (store address value) reply f h = h
 after-managed n g dropAll reply f h = h
+after-managed n g (harvest first count map) reply f h = h
 
 module _ {S : Type 0} (regime : S → Option Regime) (F : Functions S) (rule : (s : S) (m : List ℕ) (c : Call) (x : Handed S Reply) → F s m c x → Rule1Call regime F s m c x) (s₀ : S) (m₀ : List ℕ) where
   -- the session's regime is the one last accepted
@@ -113,6 +119,8 @@ made-is (set-regime lives s memory r after x h) = set-promise lives s memory r a
 made-is (accessed lives s memory a after x h) = access-promise lives s memory a after x h
 made-is (stored lives s memory address value after x h) = store-promise lives s memory address value after x h
 made-is (dropped-all s after m h) = drop-promise s after h m
+made-is (harvested-pages lives s memory first count map after filled x h) =
+    harvest-handed s (x .session) first count (memory .now) (map .now) after filled (x .reply) (harvest-promise lives s memory first count map after filled x h)
 
 pub made-leaves : Leaving Made
 made-leaves s m c x made = made-is made
@@ -122,3 +130,19 @@ rule-1-call-code s m c x made = rule1-leaves Made made-leaves s m c x made
 
 pub rule-1-code : Rule1OfCode
 rule-1-code s₀ m₀ s m past chain = rule1-list regimeHeld Made (rule1-leaves Made made-leaves) s₀ m₀ chain
+
+-- ---- a harvest that is refused leaves its map as it was
+
+pub map-kept-in : (g : Option Regime) (first count : ℕ) (m map : List ℕ) (y : Refusal) → harvestIn ours g first count m map .reply ≡ Refused y → harvestIn ours g first count m map .map ≡ map
+map-kept-in none first count m map y q = refl
+map-kept-in (some r) first count m map y q = map-kept r first count m map y q
+
+pub map-kept-leaves : (s s′ : SessionStruct) (first count : ℕ) (m map after filled : List ℕ) (x : Checked) → (s′, harvestedTo x after filled) ≡ harvestLeaves s first count m map
+    → (y : Refusal) → x ≡ Refused y → filled ≡ map
+map-kept-leaves s s′ first count m map after filled x e y q =
+    ap (λ (t : SessionStruct × Harvested Checked). t .1 .map) e
+    ∙ map-kept-in (regimeHeld s) first count m map y (sym (ap (λ (t : SessionStruct × Harvested Checked). t .1 .reply) e) ∙ q)
+
+pub map-kept-code : MapKeptOfCode
+map-kept-code lives s memory first count map after filled x h =
+    map-kept-leaves s (x .session) first count (memory .now) (map .now) after filled (x .reply) (harvest-promise lives s memory first count map after filled x h)

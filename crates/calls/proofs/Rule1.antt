@@ -3,7 +3,7 @@ use Prim.Native.Nat.{ℕ, _+_, _-_, _^_, _≤_, _<_}
 use mathlib.Core.Bool.{Bool, true, false}
 use mathlib.Core.List.{List}
 use mathlib.Core.Option.{Option, none, some}
-use mathlib.Core.Path.{_≡_, refl, sym, ap, subst, subst⁻¹, _∙_}
+use mathlib.Core.Path.{_≡_, refl, sym, ap, ap₂, subst, subst⁻¹, _∙_}
 use native.Mathlib.Omega.{arith}
 use lib.ListN.{length, getD}
 use borrow.Author.Tests.{le-leb}
@@ -19,7 +19,7 @@ use Rattle.vmsa.specs.declared.Leaf.{Leaf}
 use Rattle.vmsa.specs.declared.Refusal.{Refusal}
 use Rattle.checks.specs.declared.Checked.{Checked}
 use Rattle.checks.specs.declared.Checked.the-variants.{Accepted, Refused}
-use Rattle.checks.specs.Order.{firstOf, memoryRows, settingRows, accessRows, storeRows, regimeCheck, sessionStoreCheck, andThen}
+use Rattle.checks.specs.Order.{firstOf, memoryRows, settingRows, accessRows, storeRows, harvestRows, regimeCheck, sessionStoreCheck, harvestCheck, andThen}
 use Rattle.checks.proofs.Accept.{clear, pooled}
 use Rattle.lookup.specs.declared.Word.the-variants.{Value}
 use Rattle.lookup.specs.Steps.{fetched}
@@ -28,7 +28,9 @@ use Rattle.walk.proofs.Parts.{length-part, part-put}
 use Rattle.rules.specs.Rule1.{FirstNumber}
 use Rattle.rules.specs.Tables.{readerOf}
 use Rattle.rules.proofs.Refusals.{first-refuses, refuses-first}
-use Rattle.tlb.specs.Replies.{Reply, done, refused, answered, Told, updates}
+use Rattle.harvest.specs.Harvest.{harvest as harvestOver, harvestBy}
+use Rattle.harvest.proofs.Laws.{harvest-length, harvest-bytes, outside, unheard}
+use Rattle.tlb.specs.Replies.{Reply, done, refused, answered, Told, harvestReply, updates}
 use Rattle.tlb.specs.Walker.{Spot, lost, found, Entry, empty, heldIn, Walked, declined, putWord, walkFrom, walked, accessHeld, accessBy, accessIn}
 use Rattle.tlb.specs.Ours.{offsetOf, located, judged, stamped, ours}
 use Rattle.tlb.specs.Entries.{entryView, regimeIn, pageFor, entryFor, keptEntry}
@@ -36,11 +38,11 @@ use Rattle.checks.proofs.Rows.{first-append, both}
 use Rattle.tlb.proofs.Walking.{put-is}
 use Rattle.tlb.proofs.Found.{where-found, in-the-pool}
 use Rattle.session.specs.declared.Session.{Session as SessionStruct}
-use Rattle.session.specs.Model.{Session, Handed, handed, Stepped, stay, refusal, keep, setBy, learn, accessWith, storeBy, storeIn, Call, setRegime, access, store, dropAll, call}
-use Rattle.session.specs.View.{sessionView, regimeHeld, setAfter, entryIn, withEntry, sessionAfter, leaves, numberIn}
+use Rattle.session.specs.Model.{Session, Handed, handed, Stepped, stay, refusal, keep, setBy, learn, accessWith, storeBy, storeIn, emptiedBy, harvestIn, harvestTo, Call, setRegime, access, store, dropAll, harvest, call}
+use Rattle.session.specs.View.{sessionView, regimeHeld, setAfter, entryIn, withEntry, emptiedAfter, harvestOf, sessionAfter, leaves, numberIn}
 use Rattle.session.proofs.Calls.{set-checked, Storable, store-accepted, access-learn, given, access-is, unkept-same, viewed-leaves, regimeOr, by-or}
 use Rattle.calls.specs.Chains.{event, Functions, Leaving, Calling, regimeAfter}
-use Rattle.calls.proofs.Memories.{Written, still, wrote, written-long, written-bytes, written-outside, written-same, pool-same, located-same}
+use Rattle.calls.proofs.Memories.{Parted, Written, still, wrote, parted, written-long, written-bytes, written-outside, written-same, pool-same, located-same}
 use Rattle.calls.specs.Rule1.{rowsOf, InPool, Reach, StoredAt, Rule1Event, Same, Rule1Call, Rule1OfModel}
 
 -- ---- a refused call, and any other
@@ -107,6 +109,15 @@ module _ (s : Session) (m : List ℕ) where
       subst⁻¹ (λ (x : Checked). CallBy s m x (stay s (storeIn ours (some r) m address value))) (first-append (memoryRows (length m) r) (storeRows (r .pool) address))
       (store-by r address value (andThen (firstOf (memoryRows (length m) r)) (firstOf (storeRows (r .pool) address))))
 
+  harvest-by : (r : Regime) (first count : ℕ) (map : List ℕ) (x : Checked) → CallBy s m x (harvestTo ours s (harvestBy r first count m map x))
+  harvest-by r first count map Accepted = λ k e. clash (cc)
+  harvest-by r first count map (Refused x) = refl
+
+  harvest-rows : (first count : ℕ) (map : List ℕ) (g : Option Regime) → CallBy s m (firstOf (rowsOf (length m) g (harvest first count map))) (harvestTo ours s (harvestIn ours g first count m map))
+  unfolding harvestOver harvestCheck
+  harvest-rows first count map none = refl
+  harvest-rows first count map (some r) = harvest-by r first count map (firstOf (harvestRows (length m) r first count (length map)))
+
   learn-rows : (page : ℕ) (x : Checked) (w : Walked) → AccessBy m x w → CallBy s m x (learn ours s page w)
   learn-rows page (Refused x) w e = ap (learn ours s page) e
   learn-rows page Accepted w h = h
@@ -122,6 +133,7 @@ module _ (s : Session) (m : List ℕ) where
       (learn-rows (pageFor r a) (firstOf (rowsOf (length m) (s .regime) (access a))) (accessIn ours (s .regime) m a e) (access-rows m a (s .regime) e))
   rows (store address value) = store-rows address value (s .regime)
   rows dropAll = done-not
+  rows (harvest first count map) = harvest-rows first count map (s .regime)
 
   module _ (c : Call) (k : ℕ) where
     abbrev checked : Checked
@@ -249,6 +261,22 @@ module _ (m n : List ℕ) where
     both-set r Accepted = record { reply = refl; session = refl; memory = still }
     both-set r (Refused x) = record { reply = refl; session = refl; memory = still }
 
+    -- a harvest changes no more than the pool
+    harvest-parted : (r : Regime) (first count : ℕ) (l map : List ℕ) → Parted (r .pool .start) (r .pool .length) l (harvestOver r first count l map .memory)
+    harvest-parted r first count l map =
+        record { long = harvest-length r first count l map; bytes = harvest-bytes r first count l map; outside = outside r first count l map }
+
+    both-harvest-in : (first count : ℕ) (map : List ℕ) (g : Option Regime) → Same (InPool g) m n
+        → Both (InPool g) (harvestTo ours s (harvestIn ours g first count m map)) (harvestTo ours s (harvestIn ours g first count n map))
+    both-harvest-in first count map none h = record { reply = refl; session = refl; memory = still }
+    both-harvest-in first count map (some r) h =
+        let u = unheard r first count m n map (h .long) (pool-same r m n h) in
+        record {
+          reply = ap₂ harvestReply (u .reply) (u .map);
+          session = ap (emptiedBy ours s) (u .reply);
+          memory = parted (r .pool .start) (r .pool .length) (λ i p q. (p, q)) (harvest-parted r first count m map) (harvest-parted r first count n map) (u .pool);
+        }
+
     both-call : (c : Call) → Same (Reach (s .regime) c) m n → Both (Reach (s .regime) c) (call ours s m c) (call ours s n c)
     both-call (setRegime r) h =
         subst (λ (k : ℕ). Both (λ (i : ℕ). ⊥) (call ours s m (setRegime r)) (setBy ours s n r (andThen (firstOf (memoryRows k r)) (firstOf (settingRows r))))) (h .long)
@@ -261,6 +289,7 @@ module _ (m n : List ℕ) where
         (both-learn (pageFor r a) (accessIn ours (s .regime) m a e) (accessIn ours (s .regime) n a e) (both-access-in a e (s .regime) h)))
     both-call (store address value) h = both-store-in address value (s .regime) h
     both-call dropAll h = record { reply = refl; session = refl; memory = still }
+    both-call (harvest first count map) h = both-harvest-in first count map (s .regime) h
 
 same-self : (At : ℕ → Type 0) (m : List ℕ) → Same At m m
 same-self At m = record { long = refl; bytes = λ i q. refl }
@@ -277,11 +306,16 @@ set-regime : (s : Session) (m : List ℕ) (r : Regime) (x : Checked) → setBy o
 set-regime s m r Accepted = refl
 set-regime s m r (Refused x) = refl
 
+emptied-regime : (s : Session) (x : Checked) → emptiedBy ours s x .regime ≡ s .regime
+emptied-regime s Accepted = refl
+emptied-regime s (Refused x) = refl
+
 regime-after : (s : Session) (m : List ℕ) (c : Call) → call ours s m c .session .regime ≡ regimeAfter c (call ours s m c .reply) (s .regime)
 regime-after s m (setRegime r) = set-regime s m r (andThen (firstOf (memoryRows (length m) r)) (firstOf (settingRows r)))
 regime-after s m (access a) = ap (λ (y : Stepped). y .session .regime) (sym (access-learn s m a (regimeOr (s .regime)) (s .regime) (by-or (s .regime))))
 regime-after s m (store address value) = refl
 regime-after s m dropAll = refl
+regime-after s m (harvest first count map) = emptied-regime s (harvestIn ours (s .regime) first count m map .reply)
 
 -- ---- what an accepted store leaves
 
@@ -349,12 +383,17 @@ set-kept : (s : SessionStruct) (m : List ℕ) (r : Regime) (k : ℕ) (x : Checke
 set-kept s m r k Accepted q = clash (cc)
 set-kept s m r k (Refused x) q = refl
 
+emptied-kept : (s : SessionStruct) (x : Checked) (map : List ℕ) (k : ℕ) → harvestReply x map ≡ refused k → emptiedAfter s x ≡ s
+emptied-kept s Accepted map k q = clash (cc)
+emptied-kept s (Refused x) map k q = refl
+
 struct-kept : (s : SessionStruct) (m : List ℕ) (c : Call) (k : ℕ) → call ours (sessionView s) m c .reply ≡ refused k → sessionAfter s m c ≡ s
 struct-kept s m (setRegime r) k q = set-kept s m r k (regimeCheck (length m) r) (subst (λ (y : Stepped). y .reply ≡ refused k) (set-checked (sessionView s) m r) q)
 struct-kept s m (access a) k q =
     unkept-same s m a (unkept m a (regimeHeld s) (entryView (entryIn s a)) k (subst⁻¹ (λ (y : Stepped). y .reply ≡ refused k) (access-is s m a) q))
 struct-kept s m (store address value) k q = refl
 struct-kept s m dropAll k q = clash (cc)
+struct-kept s m (harvest first count map) k q = emptied-kept s (harvestOf s first count m map .reply) (harvestOf s first count m map .map) k q
 
 -- no byte out of reach has a say in any number of the session
 struct-same : (s : SessionStruct) (m n : List ℕ) (c : Call) → Same (Reach (regimeHeld s) c) m n → sessionAfter s m c ≡ sessionAfter s n c
@@ -363,6 +402,11 @@ struct-same s m n (access a) h =
     ap (λ (k : Option Leaf). withEntry s (numberIn s a) (keptEntry (entryIn s a) (pageFor (regimeOf (s .regime)) a) k)) (both-access-in m n a (entryView (entryIn s a)) (regimeHeld s) h .kept)
 struct-same s m n (store address value) h = refl
 struct-same s m n dropAll h = refl
+struct-same s m n (harvest first count map) h = ap (emptiedAfter s) (reply-same first count map (regimeHeld s) h)
+  where
+    reply-same : (first count : ℕ) (map : List ℕ) (g : Option Regime) → Same (InPool g) m n → harvestIn ours g first count m map .reply ≡ harvestIn ours g first count n map .reply
+    reply-same first count map none h = refl
+    reply-same first count map (some r) h = unheard r first count m n map (h .long) (pool-same r m n h) .reply
 
 pub rule1-leaves : (F : Functions SessionStruct) → Leaving F → (s : SessionStruct) (m : List ℕ) (c : Call) (x : Handed SessionStruct Reply) → F s m c x
     → Rule1Call regimeHeld F s m c x

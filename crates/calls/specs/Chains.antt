@@ -6,11 +6,11 @@ use mathlib.Core.Option.{Option, none, some}
 use mathlib.Core.Path.{_≡_}
 use Rattle.descriptor.specs.Bits.{pick}
 use Rattle.vmsa.specs.declared.Regime.{Regime}
-use Rattle.tlb.specs.Replies.{Reply, done, refused, answered}
+use Rattle.tlb.specs.Replies.{Reply, done, refused, answered, harvested}
 use Rattle.tlb.specs.Ours.{ours}
 use Rattle.session.specs.declared.Session.{Session as SessionStruct}
 use Rattle.session.specs.View.{leaves}
-use Rattle.session.specs.Model.{Session, Handed, Call, setRegime, access, store, dropAll, call}
+use Rattle.session.specs.Model.{Session, Handed, Call, setRegime, access, store, dropAll, harvest, call}
 
 -- a call, what it handed back, and the memory that it found and left; nothing of what is stored
 pub record Event : Type 0 where
@@ -42,16 +42,19 @@ pub data Chain {S : Type 0} (F : Functions S) (s₀ : S) (m₀ : List ℕ) : S �
 
 -- ---- the regime last accepted, from the calls and their replies
 
+-- an accepted call that is no access
 abbrev pub isDone : Reply → Bool
 isDone done = true
 isDone (refused n) = false
 isDone (answered o n) = false
+isDone (harvested map) = true
 
 abbrev pub regimeAfter : Call → Reply → Option Regime → Option Regime
 regimeAfter (setRegime R) reply old = pick (isDone reply) (some R) old
 regimeAfter (access a) reply old = old
 regimeAfter (store address value) reply old = old
 regimeAfter dropAll reply old = old
+regimeAfter (harvest first count map) reply old = old
 
 -- where the first session had the regime g
 abbrev pub regimeFrom : Option Regime → List Event → Option Regime

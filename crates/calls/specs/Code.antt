@@ -1,23 +1,27 @@
 -- Rule 1 (RULES 13) of the functions of a session, by value: each call by what the function's own contract tells its caller.
 use Prim.Native.Nat.{ℕ}
 use mathlib.Core.List.{List}
+use mathlib.Core.Path.{_≡_}
 use contract.Lifetimes.{Lfts}
 use denote.Ref.{RefT, at-last}
 use Rattle.vmsa.specs.Answers.{view}
 use Rattle.vmsa.specs.declared.Regime.{Regime}
 use Rattle.vmsa.specs.declared.Access.{Access}
 use Rattle.vmsa.specs.declared.PhysAddr.{PhysAddr}
-use Rattle.tlb.specs.Replies.{Reply, done, replyOf, replyTo}
+use Rattle.vmsa.specs.declared.Refusal.{Refusal}
+use Rattle.checks.specs.declared.Checked.the-variants.{Refused}
+use Rattle.tlb.specs.Replies.{Reply, done, replyOf, replyTo, harvestReply}
 use Rattle.session.specs.declared.Session.{Session as SessionStruct}
 use Rattle.session.specs.declared.Changed.{Changed}
 use Rattle.session.specs.declared.Accessed.{Accessed}
-use Rattle.session.specs.Model.{Handed, handed, Call, setRegime, access, store, dropAll}
+use Rattle.session.specs.Model.{Handed, handed, Call, setRegime, access, store, dropAll, harvest}
 use Rattle.session.specs.View.{regimeHeld}
 use Rattle.session.proofs.Session.empty.Reads as Empty
 use Rattle.session.proofs.Session.set_regime.Reads as SetRegime
 use Rattle.session.proofs.Session.access.Reads as AccessOf
 use Rattle.session.proofs.Session.store.Reads as Store
 use Rattle.session.proofs.Session.invalidate_all.Reads as InvalidateAll
+use Rattle.session.proofs.Session.harvest.Reads as Harvest
 use Rattle.calls.specs.Chains.{Event, Chain}
 use Rattle.calls.specs.Rule1.{Rule1Call, Rule1List}
 
@@ -39,6 +43,9 @@ pub data Made : SessionStruct → List ℕ → Call → Handed SessionStruct Rep
       → Made s (memory .now) (store (address .0) value) (handed (x .session) after (replyTo (x .reply)))
   dropped-all : (s after : SessionStruct) (m : List ℕ) → InvalidateAll.Learnt tt (s, tt) after (s, tt)
       → Made s m dropAll (handed after m done)
+  harvested-pages : (lives : Lfts 2) (s : SessionStruct) (memory : RefT (List ℕ)) (first count : ℕ) (map : RefT (List ℕ)) (after filled : List ℕ) (x : Changed)
+      → Harvest.Learnt lives (s, (memory, (first, (count, (map, tt))))) x (s, (at-last memory after, (first, (count, (at-last map filled, tt)))))
+      → Made s (memory .now) (harvest first count (map .now)) (handed (x .session) after (harvestReply (x .reply) filled))
 
 -- ---- rule 1 of these functions: any call, in any session and over any memory; and every list of calls
 
@@ -47,3 +54,10 @@ Rule1OfCall = (s : SessionStruct) (m : List ℕ) (c : Call) (x : Handed SessionS
 
 abbrev pub Rule1OfCode : Type 1
 Rule1OfCode = (s₀ : SessionStruct) (m₀ : List ℕ) (s : SessionStruct) (m : List ℕ) (past : List Event) → Chain Made s₀ m₀ s m past → Rule1List regimeHeld Made s₀ m₀ s m past
+
+-- ---- a harvest that is refused leaves its map as it was
+
+abbrev pub MapKeptOfCode : Type 0
+MapKeptOfCode = (lives : Lfts 2) (s : SessionStruct) (memory : RefT (List ℕ)) (first count : ℕ) (map : RefT (List ℕ)) (after filled : List ℕ) (x : Changed)
+    → Harvest.Learnt lives (s, (memory, (first, (count, (map, tt))))) x (s, (at-last memory after, (first, (count, (at-last map filled, tt)))))
+    → (y : Refusal) → x .reply ≡ Refused y → filled ≡ map .now

@@ -11,13 +11,13 @@ use Rattle.descriptor.specs.Bytes.{Bytes, put}
 use Rattle.vmsa.specs.declared.Regime.{Regime}
 use Rattle.vmsa.specs.declared.Refusal.{Refusal}
 use Rattle.vmsa.specs.declared.Refusal.the-variants.{NoRegime}
-use Rattle.checks.specs.Order.{memoryRows, regimeRows, accessRows, storeRows}
+use Rattle.checks.specs.Order.{memoryRows, regimeRows, accessRows, storeRows, harvestRows}
 use Rattle.lookup.specs.declared.Word.the-variants.{Value}
 use Rattle.rules.specs.Rule1.{FirstNumber, Managed}
 use Rattle.rules.specs.Tables.{readerOf}
 use Rattle.tlb.specs.Replies.{Reply, done, refused}
 use Rattle.tlb.specs.Ours.{offsetOf, ours}
-use Rattle.session.specs.Model.{Session, Handed, Call, setRegime, access, store, dropAll, call}
+use Rattle.session.specs.Model.{Session, Handed, Call, setRegime, access, store, dropAll, harvest, call}
 use Rattle.calls.specs.Chains.{Event, event, Functions, Calling, Chain, regimeAfter, regimeFrom}
 
 -- ---- what each call is checked for, and the bytes that it reaches
@@ -33,18 +33,20 @@ rowsOf n g (setRegime r) = regimeRows n r
 rowsOf n g (access a) = underRegime g (λ (r : Regime). memoryRows n r ++ accessRows r a)
 rowsOf n g (store address value) = underRegime g (λ (r : Regime). memoryRows n r ++ storeRows (r .pool) address)
 rowsOf n g dropAll = []
+rowsOf n g (harvest first count map) = underRegime g (λ (r : Regime). harvestRows n r first count (length map))
 
 -- the bytes of the pool of a session's regime
 abbrev pub InPool : Option Regime → ℕ → Type 0
 InPool none i = ⊥
 InPool (some r) i = (r .pool .start ≤ i) × (i < r .pool .start + r .pool .length)
 
--- the bytes that a call may see or change: the pool's for an access and a store, none for a set regime and a drop all
+-- the bytes that a call may see or change: the pool's for an access, a store and a harvest, none for a set regime and a drop all
 abbrev pub Reach : Option Regime → Call → ℕ → Type 0
 Reach g (setRegime r) i = ⊥
 Reach g (access a) i = InPool g i
 Reach g (store address value) i = InPool g i
 Reach g dropAll i = ⊥
+Reach g (harvest first count map) i = InPool g i
 
 -- ---- one call
 

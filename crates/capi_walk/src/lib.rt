@@ -9,11 +9,11 @@ use words::AccessWords;
 use words::AnswerWords;
 
 // The version of this interface.
-pub const VERSION: u32 = 10;
+pub const VERSION: u32 = 11;
 
 #[no_mangle]
 pub extern "C" fn vmsa_version() -> u32
-    ensures { λ r. ⌜ r ≡ 10 ⌝ }
+    ensures { λ r. ⌜ r ≡ 11 ⌝ }
 {
     VERSION
 }

@@ -2,13 +2,13 @@
 use Prim.Native.Nat.{ℕ, zero, suc, _+_, _-_, _%_, _^_, _<_, _≤_}
 use mathlib.Core.Bool.{Bool, true, false, not, _&&_, _||_}
 use mathlib.Core.List.{List, [], _∷_, _++_}
-use mathlib.Core.Path.{_≡_, refl, sym}
+use mathlib.Core.Path.{_≡_, refl, sym, _∙_}
 use native.Mathlib.Omega.{arith}
 use lib.Dec.{leb, ltb, eqb}
-use borrow.Author.Tests.{ltb-false, leb-false, not-false, eqb-true}
+use borrow.Author.Tests.{ltb-false, leb-false, not-false, eqb-true, eqb-false}
 use Rattle.descriptor.specs.Bits.{pick}
 use Rattle.descriptor.proofs.Tests.{or-false}
-use Rattle.vmsa.specs.Limits.{memoryLimit, poolLimit, addressLimit, tszLeast, tszMost, outputMost, Sized}
+use Rattle.vmsa.specs.Limits.{memoryLimit, poolLimit, addressLimit, tszLeast, tszMost, outputMost, harvestLimit, Sized}
 use Rattle.vmsa.specs.Granules.{pageBitsOf}
 use Rattle.geometry.specs.Geometry.{pageSize, unaligned, pageOf}
 use Rattle.vmsa.specs.Kinds.{isFetch, isProbe}
@@ -17,8 +17,10 @@ use Rattle.vmsa.specs.declared.Access.{Access}
 use Rattle.vmsa.specs.declared.Refusal.{Refusal}
 use Rattle.checks.specs.declared.Checked.{Checked}
 use Rattle.checks.specs.declared.Checked.the-variants.{Accepted, Refused}
-use Rattle.refusals.specs.Tests.{memoryPoolBad, poolAddressBad, tszBad, sizesBad, rootBad, rootsBad, attributesBad, dirtyStateBad, sizeBad, accessSizeBad, lastByte, crossing}
-use Rattle.checks.specs.Order.{firstBefore, firstOf, regimeRows, accessRows, walkRows, startRows, regimeCheck, accessCheck, walkCheck, startCheck}
+use Rattle.bitmap.specs.Map.{bytesFor}
+use Rattle.refusals.specs.Tests.{memoryPoolBad, poolAddressBad, tszBad, sizesBad, rootBad, rootsBad, attributesBad, dirtyStateBad, sizeBad, accessSizeBad, lastByte, crossing, inRange0, inRange1, pageRangeBad, mapLengthBad}
+use Rattle.checks.specs.Order.{firstBefore, firstOf, regimeRows, accessRows, walkRows, startRows, regimeCheck, accessCheck, walkCheck, startCheck, askedRows, askedCheck, harvestCheck}
+use Rattle.checks.proofs.Rows.{both, harvest-apart}
 
 -- no test of the rows applies
 abbrev pub Clear : List (Bool × Refusal) → Type 0
@@ -175,3 +177,32 @@ unfolding startCheck
 start-accepted r a e =
     let c = clear (startRows r a) e in
     (sized r (c .0), shaped r a (c .1 .1 .1 .1 .0) (c .1 .1 .1 .1 .1 .0))
+
+-- of the pages and the map of a harvest (rows 10 and 11)
+pub record Ranged (r : Regime) (first count : ℕ) : Type 0 where
+  pub some : 0 < count
+  pub most : count ≤ harvestLimit
+  pub in-range : (inRange0 (pageBitsOf r) (r .range0 .tsz) first count || inRange1 (pageBitsOf r) (r .range1 .tsz) first count) ≡ true
+
+pub ranged : (r : Regime) (first count : ℕ) → pageRangeBad r first count ≡ false → Ranged r first count
+unfolding pageRangeBad
+ranged r first count e =
+    let t0 = inRange0 (pageBitsOf r) (r .range0 .tsz) first count in
+    let t1 = inRange1 (pageBitsOf r) (r .range1 .tsz) first count in
+    let s = or-false (eqb count 0 || ltb harvestLimit count) (not (t0 || t1)) e in
+    let u = or-false (eqb count 0) (ltb harvestLimit count) (s .0) in
+    let z : count ≡ 0 → ⊥ = eqb-false count 0 (u .0) in
+    record { some = omega arith; most = ltb-false harvestLimit count (u .1); in-range = not-false (t0 || t1) (s .1) }
+
+pub map-room : (count bytes : ℕ) → mapLengthBad count bytes ≡ false → bytesFor count ≤ bytes
+unfolding mapLengthBad
+map-room count bytes e = ltb-false bytes (bytesFor count) e
+
+pub asked-accepted : (r : Regime) (first count bytes : ℕ) → askedCheck r first count bytes ≡ Accepted → Ranged r first count × (bytesFor count ≤ bytes)
+unfolding askedCheck
+asked-accepted r first count bytes e = let c = clear (askedRows r first count bytes) e in (ranged r first count (c .0), map-room count bytes (c .1 .0))
+
+-- a harvest that is accepted
+pub harvest-accepted : (n : ℕ) (r : Regime) (first count bytes : ℕ) → harvestCheck n r first count bytes ≡ Accepted
+    → (regimeCheck n r ≡ Accepted) × (askedCheck r first count bytes ≡ Accepted)
+harvest-accepted n r first count bytes e = both (regimeCheck n r) (askedCheck r first count bytes) (sym (harvest-apart n r first count bytes) ∙ e)

@@ -10,7 +10,7 @@ use Rattle.checks.specs.declared.Checked.the-variants.{Accepted, Refused
 use Rattle.vmsa.specs.declared.Regime.{Regime}
 use Rattle.vmsa.specs.declared.Access.{Access}
 use Rattle.refusals.specs.Tests.{memoryPoolBad, poolAddressBad}
-use Rattle.checks.specs.Order.{firstOf, andThen, tableRows, regimeRows, accessRows, tablesCheck, regimeCheck, accessCheck, walkCheck, startCheck}
+use Rattle.checks.specs.Order.{firstOf, andThen, tableRows, regimeRows, accessRows, tablesCheck, regimeCheck, accessCheck, walkCheck, startCheck, askedRows, askedCheck, harvestCheck}
 
 pub first-append : (xs ys : List (Bool × Refusal)) → firstOf (xs ++ ys) ≡ andThen (firstOf xs) (firstOf ys)
 first-append [] ys = refl
@@ -38,3 +38,8 @@ start-apart r a = first-append (tableRows r) (accessRows r a)
 pub walk-start : (n : ℕ) (r : Regime) (a : Access) → memoryPoolBad n r ≡ false → poolAddressBad r ≡ false → walkCheck n r a ≡ startCheck r a
 unfolding walkCheck startCheck
 walk-start n r a e f = rw (e, f)
+
+-- a harvest checks its regime, and then its pages and its map
+pub harvest-apart : (n : ℕ) (r : Regime) (first count bytes : ℕ) → harvestCheck n r first count bytes ≡ andThen (regimeCheck n r) (askedCheck r first count bytes)
+unfolding regimeCheck askedCheck harvestCheck
+harvest-apart n r first count bytes = first-append (regimeRows n r) (askedRows r first count bytes)

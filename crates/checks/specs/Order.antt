@@ -7,10 +7,10 @@ use Rattle.vmsa.specs.declared.Regime.{Regime}
 use Rattle.vmsa.specs.declared.Pool.{Pool}
 use Rattle.vmsa.specs.declared.Access.{Access}
 use Rattle.vmsa.specs.declared.Refusal.{Refusal}
-use Rattle.vmsa.specs.declared.Refusal.the-variants.{MemoryPool, PoolAddress, Sizes, Root, Attributes, DirtyState, AccessSize, PageCrossing, StoreAddress}
+use Rattle.vmsa.specs.declared.Refusal.the-variants.{MemoryPool, PoolAddress, Sizes, Root, Attributes, DirtyState, AccessSize, PageCrossing, StoreAddress, PageRange, MapLength}
 use Rattle.checks.specs.declared.Checked.{Checked}
 use Rattle.checks.specs.declared.Checked.the-variants.{Accepted, Refused}
-use Rattle.refusals.specs.Tests.{memoryPoolBad, poolAddressBad, sizesBad, rootsBad, attributesBad, dirtyStateBad, accessSizeBad, crossing, storeAddressBad}
+use Rattle.refusals.specs.Tests.{memoryPoolBad, poolAddressBad, sizesBad, rootsBad, attributesBad, dirtyStateBad, accessSizeBad, crossing, storeAddressBad, pageRangeBad, mapLengthBad}
 
 -- the refusal of the first test that applies, or else what the rest says
 abbrev pub firstBefore : List (Bool × Refusal) → Checked → Checked
@@ -57,6 +57,14 @@ walkRows n r a = regimeRows n r ++ accessRows r a
 abbrev pub startRows : Regime → Access → List (Bool × Refusal)
 startRows r a = tableRows r ++ accessRows r a
 
+-- the pages of a harvest, and its map of so many bytes
+abbrev pub askedRows : Regime → ℕ → ℕ → ℕ → List (Bool × Refusal)
+askedRows r first count bytes = (pageRangeBad r first count, PageRange) ∷ (mapLengthBad count bytes, MapLength) ∷ []
+
+-- a harvest
+abbrev pub harvestRows : ℕ → Regime → ℕ → ℕ → ℕ → List (Bool × Refusal)
+harvestRows n r first count bytes = regimeRows n r ++ askedRows r first count bytes
+
 unfoldable pub tablesCheck : Regime → Checked
 tablesCheck r = firstOf (tableRows r)
 
@@ -71,6 +79,12 @@ walkCheck n r a = firstOf (walkRows n r a)
 
 unfoldable pub startCheck : Regime → Access → Checked
 startCheck r a = firstOf (startRows r a)
+
+unfoldable pub askedCheck : Regime → ℕ → ℕ → ℕ → Checked
+askedCheck r first count bytes = firstOf (askedRows r first count bytes)
+
+unfoldable pub harvestCheck : ℕ → Regime → ℕ → ℕ → ℕ → Checked
+harvestCheck n r first count bytes = firstOf (harvestRows n r first count bytes)
 
 -- an access and a store in a session that has a regime
 unfoldable pub sessionAccessCheck : ℕ → Regime → Access → Checked

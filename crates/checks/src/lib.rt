@@ -1,11 +1,14 @@
 // The order in which a call is checked: the first row of the table that applies gives the refusal.
 ghost use mathlib.Core.Path.{_≡_};
-ghost use Rattle.checks.specs.Order.{andThen, tablesCheck, regimeCheck, accessCheck, walkCheck, startCheck, sessionAccessCheck, sessionStoreCheck};
+ghost use Rattle.vmsa.specs.Limits.{Sized};
+ghost use Rattle.checks.specs.Order.{andThen, tablesCheck, regimeCheck, accessCheck, walkCheck, startCheck, askedCheck, harvestCheck, sessionAccessCheck, sessionStoreCheck};
 use refusals::access_size_bad;
 use refusals::attributes_bad;
 use refusals::crosses;
 use refusals::dirty_state_bad;
+use refusals::map_length_bad;
 use refusals::memory_pool_bad;
+use refusals::page_range_bad;
 use refusals::pool_address_bad;
 use refusals::roots_bad;
 use refusals::sizes_bad;
@@ -88,6 +91,30 @@ pub fn check_start(r: Regime, a: Access) -> Checked
     ensures { λ x. ⌜ x ≡ startCheck r a ⌝ }
 {
     then_access(check_tables(r), r, a)
+}
+
+// The pages of a harvest, under a regime, and its map of so many bytes.
+fn check_asked(r: Regime, first: u64, count: u64, bytes: usize) -> Checked
+    requires { ⌜ Sized r ⌝ }
+    ensures { λ x. ⌜ x ≡ askedCheck r first count bytes ⌝ }
+{
+    if page_range_bad(r, first, count) {
+        return Checked::Refused(Refusal::PageRange);
+    }
+    if map_length_bad(count, bytes) {
+        return Checked::Refused(Refusal::MapLength);
+    }
+    Checked::Accepted
+}
+
+// A harvest over a memory of n bytes, with a map of so many bytes.
+pub fn check_harvest(n: usize, r: Regime, first: u64, count: u64, bytes: usize) -> Checked
+    ensures { λ x. ⌜ x ≡ harvestCheck n r first count bytes ⌝ }
+{
+    match check_regime(n, r) {
+        Checked::Refused(refusal) => Checked::Refused(refusal),
+        Checked::Accepted => check_asked(r, first, count, bytes),
+    }
 }
 
 // An access in a session that has a regime, over a memory of n bytes.

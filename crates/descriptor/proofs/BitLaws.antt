@@ -1,10 +1,11 @@
 -- Setting and clearing one bit, for any bit: what the number keeps, and that it fits.
 use Prim.Native.Nat.{ℕ, zero, suc, _+_, _*_, _/_, _%_, _^_, _<_, _≤_, _-_}
-use mathlib.Core.Bool.{Bool, true, false}
+use mathlib.Core.Bool.{Bool, true, false, _||_}
 use mathlib.Core.Path.{_≡_, refl, sym, ap, subst, _∙_}
-use native.Mathlib.Nat.{add-div-right, add-mul-mod-self-right, div-eq-of-lt, le-div-iff-mul-le, div-lt-iff-lt-mul}
+use native.Mathlib.Nat.{add-div-right, add-mul-mod-self-right, div-eq-of-lt, le-div-iff-mul-le, div-lt-iff-lt-mul, mod-lt}
 use native.Mathlib.Omega.{arith}
-use lib.Dec.{eqb, ltb}
+use lib.Dec.{eqb, ltb, lit<}
+use lib.Bits.{bitOr, or-shr, or-mod}
 use lib.Pow.{pow-pos, pow-add, shr-shr, field as field-mod}
 use borrow.Author.Tests.{eqb-true, eqb-false, eq-eqb, ne-eqb, ltb-true, ltb-false}
 use Rattle.descriptor.specs.Bits.{pick, bit, setBit, clearBit}
@@ -136,3 +137,19 @@ set-small n v w h l = small w v (setBit n v) (set-above n v w h) l
 
 pub clear-small : (n v w : ℕ) → n < w → v < 2 ^ w → clearBit n v < 2 ^ w
 clear-small n v w h l = small w v (clearBit n v) (clear-above n v w h) l
+
+-- ---- an or of two numbers, bit by bit
+
+or-digits : (x y : ℕ) → x < 2 → y < 2 → eqb (bitOr x y) 1 ≡ (eqb x 1 || eqb y 1)
+or-digits zero zero h k = refl
+or-digits zero (suc zero) h k = refl
+or-digits (suc zero) zero h k = refl
+or-digits (suc zero) (suc zero) h k = refl
+or-digits zero (suc (suc y)) h k = absurd (omega arith)
+or-digits (suc zero) (suc (suc y)) h k = absurd (omega arith)
+or-digits (suc (suc x)) y h k = absurd (omega arith)
+
+pub or-bit : (n a b : ℕ) → bit n (bitOr a b) ≡ (bit n a || bit n b)
+or-bit n a b =
+    ap (λ (x : ℕ). eqb x 1) (ap (λ (x : ℕ). x % 2) (or-shr a b n) ∙ or-mod (a / 2 ^ n) (b / 2 ^ n) 1)
+    ∙ or-digits (a / 2 ^ n % 2) (b / 2 ^ n % 2) (mod-lt (a / 2 ^ n) (lit< tt)) (mod-lt (b / 2 ^ n) (lit< tt))

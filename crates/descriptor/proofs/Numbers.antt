@@ -2,13 +2,13 @@
 use Prim.Native.Nat.{ℕ, zero, suc, _+_, _*_, _/_, _%_, _^_, _<_, _≤_, zero-le}
 use mathlib.Core.Bool.{Bool, true, false}
 use mathlib.Core.Path.{_≡_, refl, sym, ap, _∙_}
-use mathlib.Core.List.{List, [], _∷_, _++_, reverse, reverse-cons}
+use mathlib.Core.List.{List, [], _∷_, _++_, reverse, reverse-cons, reverse-reverse, append-assoc}
 use native.Mathlib.Nat.{pow-succ', mod-lt, div-one}
 use lib.Pow.{shr-shr}
 use native.Mathlib.Omega.{arith}
 use lib.Dec.{lit<}
-use lib.ListN.{length, take, drop, length-take}
-use lib.Seq.{getD-drop}
+use lib.ListN.{length, take, drop, length-take, length-drop, take-append-drop}
+use lib.Seq.{getD-drop, drop-drop, length-take-le}
 use Rattle.descriptor.specs.Bits.{field}
 use Rattle.descriptor.specs.Bytes.{Bytes, number, digits, inOrder, valueOf, bytesOf, desc, put}
 use Rattle.descriptor.proofs.Laws.{length-in-order, length-bytes}
@@ -112,3 +112,22 @@ unfolding valueOf bytesOf
 bytes-again ee v =
     let e : length (inOrder ee (digits 8 v)) ≡ 8 = length-bytes ee v in
     rw e at (digits-number (inOrder ee (digits 8 v)) (bytes-in-order ee (digits 8 v) (bytes-digits 8 v)))
+
+-- 8 bytes come back from the value that they are read as
+bytes-value : (ee : Bool) (l : List ℕ) → Bytes l → length l ≡ 8 → bytesOf ee (valueOf ee l) ≡ l
+unfolding bytesOf inOrder
+bytes-value ee l h e =
+    let d : digits 8 (number l) ≡ l = rw e at (digits-number l h) in
+    ap (inOrder ee) (ap (λ (r : List ℕ). digits 8 (valueOf ee r)) (sym d) ∙ bytes-again ee (number l)) ∙ twice ee ∙ d
+  where
+    twice : (b : Bool) → inOrder b (inOrder b (digits 8 (number l))) ≡ digits 8 (number l)
+    twice true = reverse-reverse (digits 8 (number l))
+    twice false = refl
+
+-- a descriptor stored where it stands changes nothing
+pub put-same : (ee : Bool) (m : List ℕ) (i : ℕ) → Bytes m → i + 8 ≤ length m → put ee m i (desc ee m i) ≡ m
+unfolding put desc
+put-same ee m i h fits =
+    let l = take 8 (drop i m) in
+    let e : length l ≡ 8 = length-take-le 8 (drop i m) (rw (length-drop i m) (omega arith)) in
+    rw (bytes-value ee l (bytes-take (drop i m) 8 (bytes-drop m i h)) e, append-assoc, ← drop-drop 8 i m, take-append-drop 8 (drop i m)) (take-append-drop i m)

@@ -23,11 +23,13 @@ use Rattle.session.specs.Model.{Handed, handed}
 use Rattle.session.specs.View.{sessionView}
 use Rattle.session.proofs.Calls.{access-answer}
 use Rattle.session.proofs.Promises.{reply-one}
-use Rattle.lent.specs.Says.{SetSays, AccessSays, StoreSays, DropSays}
+use Rattle.harvest.specs.Harvest.{Harvested}
+use Rattle.lent.specs.Says.{SetSays, AccessSays, StoreSays, DropSays, HarvestSays}
 use Rattle.lent.proofs.set_regime as SetRegime
 use Rattle.lent.proofs.access as AccessOf
 use Rattle.lent.proofs.store as Store
 use Rattle.lent.proofs.invalidate_all as InvalidateAll
+use Rattle.lent.proofs.harvest as Harvest
 
 module _ (W : LogicModel) (lives : Lfts 2) (session : RefT SessionStruct) (memory : RefT (List ℕ)) where
   module _ (r : Regime) where
@@ -74,6 +76,17 @@ module _ (W : LogicModel) (lives : Lfts 1) (session : RefT SessionStruct) where
   pub drop-free : ent (W .𝓤) (emp (W .𝓤)) (dropClauses .requires tt)
   drop-free = id⊢ (W .𝓤) _
 
+module _ (W : LogicModel) (lives : Lfts 3) (session : RefT SessionStruct) (memory : RefT (List ℕ)) (first count : ℕ) (map : RefT (List ℕ)) where
+  abbrev pub harvestClauses : ClausesAt (W .𝓤) Harvest.ended lives
+  harvestClauses = Harvest.clauses (W .𝓤) (W .H) (W .𝓖 .A) (W .𝓜 .mem) (W .𝓡 .run) lives (session, (memory, (first, (count, (map, tt)))))
+
+  pub harvest-tells : (session′ : SessionStruct) (memory′ map′ : List ℕ) (x : Checked)
+      → ent (W .𝓤) (harvestClauses .ensures tt x (at-last session session′, (at-last memory memory′, (first, (count, (at-last map map′, tt)))))) (fact (W .𝓤) (HarvestSays (session .now) (memory .now) first count (map .now) session′ memory′ map′ x))
+  harvest-tells session′ memory′ map′ x = id⊢ (W .𝓤) _
+
+  pub harvest-free : ent (W .𝓤) (emp (W .𝓤)) (harvestClauses .requires tt)
+  harvest-free = id⊢ (W .𝓤) _
+
 -- ---- and that is one result, each part of it: no two results meet a contract
 
 module _ (s : SessionStruct) (m : List ℕ) (s′ t′ : SessionStruct) (m′ n′ : List ℕ) where
@@ -94,4 +107,14 @@ module _ (s : SessionStruct) (m : List ℕ) (s′ t′ : SessionStruct) (m′ n�
         ap (λ (t : Handed SessionStruct Reply). t .session) e,
         ap (λ (t : Handed SessionStruct Reply). t .memory) e,
         reply-settles x y low (ap (λ (t : Handed SessionStruct Reply). t .reply) e),
+      )
+
+  pub harvest-one : (first count : ℕ) (map map′ others : List ℕ) (x y : Checked) → HarvestSays s m first count map s′ m′ map′ x → HarvestSays s m first count map t′ n′ others y
+      → (s′ ≡ t′) × (m′ ≡ n′) × (map′ ≡ others) × (x ≡ y)
+  harvest-one first count map map′ others x y h k =
+      let e = h ∙ sym k in (
+        ap (λ (t : SessionStruct × Harvested Checked). t .0) e,
+        ap (λ (t : SessionStruct × Harvested Checked). t .1 .memory) e,
+        ap (λ (t : SessionStruct × Harvested Checked). t .1 .map) e,
+        ap (λ (t : SessionStruct × Harvested Checked). t .1 .reply) e,
       )

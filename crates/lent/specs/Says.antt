@@ -12,7 +12,8 @@ use Rattle.checks.specs.declared.Checked.{Checked}
 use Rattle.tlb.specs.Replies.{replyOf, replyTo}
 use Rattle.session.specs.declared.Session.{Session as SessionStruct}
 use Rattle.session.specs.Model.{handed, setRegime, access, store}
-use Rattle.session.specs.View.{emptied, leaves}
+use Rattle.harvest.specs.Harvest.{harvested}
+use Rattle.session.specs.View.{emptied, leaves, harvestLeaves}
 
 -- set_regime(session, memory, r) returned x
 abbrev pub SetSays : SessionStruct → List ℕ → Regime → SessionStruct → List ℕ → Checked → Type 0
@@ -29,3 +30,7 @@ StoreSays s m address value s′ m′ x = handed s′ m′ (replyTo x) ≡ leave
 -- invalidate_all(session) returned
 abbrev pub DropSays : SessionStruct → SessionStruct → Type 0
 DropSays s s′ = s′ ≡ emptied s
+
+-- harvest(session, memory, first, count, map) returned x, and left map′ of the map
+abbrev pub HarvestSays : SessionStruct → List ℕ → ℕ → ℕ → List ℕ → SessionStruct → List ℕ → List ℕ → Checked → Type 0
+HarvestSays s m first count map s′ m′ map′ x = (s′, harvested x m′ map′) ≡ harvestLeaves s first count m map

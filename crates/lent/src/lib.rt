@@ -4,7 +4,8 @@ ghost use mathlib.Core.Path.{_≡_};
 ghost use Rattle.vmsa.specs.Answers.{view};
 ghost use Rattle.tlb.specs.Replies.{replyOf, replyTo};
 ghost use Rattle.session.specs.Model.{handed, setRegime, access, store};
-ghost use Rattle.session.specs.View.{emptied, leaves};
+ghost use Rattle.harvest.specs.Harvest.{harvested};
+ghost use Rattle.session.specs.View.{emptied, leaves, harvestLeaves};
 use checks::Checked;
 use session::Session;
 use vmsa::Access;
@@ -49,4 +50,20 @@ pub fn invalidate_all(session: &mut Session)
     let before = *session;
     let after = before.invalidate_all();
     *session = after;
+}
+
+// Harvests count pages from page first on into the lent map, and empties every entry of the lent session: refused, or else done.
+pub fn harvest(
+    session: &mut Session,
+    memory: &mut [u8],
+    first: u64,
+    count: u64,
+    map: &mut [u8],
+) -> Checked
+    ensures { λ x. ⌜ (now (session .exit), harvested x (now (memory .exit)) (now (map .exit))) ≡ harvestLeaves (now (session .entry)) first count (now (memory .entry)) (now (map .entry)) ⌝ }
+{
+    let before = *session;
+    let left = before.harvest(memory, first, count, map);
+    *session = left.session;
+    left.reply
 }

@@ -21,13 +21,13 @@ use Rattle.lookup.specs.Trace.{fault, Trace, ended, visit, underHpd}
 use Rattle.lookup.specs.Steps.{onWord, followed, entryAt, entered, descend, upper, rangeOf, outside, contextOf, lookup, locate}
 
 -- a cut at bit n above the page bits sees the page alone
-cut-page : (p a b n : ℕ) → p ≤ n → a / 2 ^ p ≡ b / 2 ^ p → a / 2 ^ n ≡ b / 2 ^ n
+pub cut-page : (p a b n : ℕ) → p ≤ n → a / 2 ^ p ≡ b / 2 ^ p → a / 2 ^ n ≡ b / 2 ^ n
 cut-page p a b n h e =
     let q : n ≡ p + (n - p) = omega arith in
     let step : (x : ℕ) → x / 2 ^ n ≡ x / 2 ^ p / 2 ^ (n - p) = λ x. ap (λ (j : ℕ). x / 2 ^ j) q ∙ sym (shr-shr x p (n - p)) in
     step a ∙ rw e (sym (step b))
 
-mod-page : (p a b n : ℕ) → p ≤ n → a / 2 ^ p ≡ b / 2 ^ p → a % 2 ^ n / 2 ^ p ≡ b % 2 ^ n / 2 ^ p
+pub mod-page : (p a b n : ℕ) → p ≤ n → a / 2 ^ p ≡ b / 2 ^ p → a % 2 ^ n / 2 ^ p ≡ b % 2 ^ n / 2 ^ p
 mod-page p a b n h e =
     let q : n ≡ (n - p) + p = omega arith in
     let step : (x : ℕ) → x % 2 ^ n / 2 ^ p ≡ x / 2 ^ p % 2 ^ (n - p) = λ x. ap (λ (j : ℕ). x % 2 ^ j / 2 ^ p) q ∙ field x (n - p) p in

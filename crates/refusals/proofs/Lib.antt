@@ -1,3 +1,4 @@
 pub mod Below
 pub mod Sizes
 pub mod Bytes
+pub mod Pages

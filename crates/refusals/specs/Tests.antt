@@ -2,11 +2,12 @@
 use Prim.Native.Nat.{ℕ, zero, suc, _+_, _-_, _%_, _^_}
 use mathlib.Core.Bool.{Bool, true, false, not, _&&_, _||_}
 use lib.Dec.{leb, ltb, eqb}
-use Rattle.vmsa.specs.Limits.{memoryLimit, poolLimit, addressLimit, tszLeast, tszMost, outputMost}
+use Rattle.vmsa.specs.Limits.{memoryLimit, poolLimit, addressLimit, tszLeast, tszMost, outputMost, harvestLimit}
 use Rattle.vmsa.specs.Granules.{pageBitsOf}
 use Rattle.geometry.specs.Geometry.{unaligned, pageOf}
 use Rattle.vmsa.specs.Kinds.{isFetch, isProbe}
 use Rattle.vmsa.specs.Attributes.{attribute, device, normal}
+use Rattle.bitmap.specs.Map.{bytesFor}
 use Rattle.vmsa.specs.declared.Regime.{Regime}
 use Rattle.vmsa.specs.declared.Pool.{Pool}
 use Rattle.vmsa.specs.declared.Range.{Range}
@@ -72,3 +73,26 @@ crossing r a = not (eqb (pageOf (pageBitsOf r) (a .address .0)) (pageOf (pageBit
 unfoldable pub storeAddressBad : Pool → ℕ → Bool
 storeAddressBad pool address =
     not (eqb (address % 8) 0) || ltb address (pool .address .0) || ltb (pool .address .0 + pool .length) (address + 8)
+
+-- 10: a harvest's first page in neither range, no pages or more than the limit, or pages that pass the end of the first page's range.
+-- A range of size field t has 2 ^ (64 - t - p) pages; those of range 0 are the first of all pages there are, those of range 1 the last
+abbrev pub allPages : ℕ → ℕ
+allPages p = 2 ^ (64 - p)
+
+abbrev pub rangePages : ℕ → ℕ → ℕ
+rangePages p t = 2 ^ (64 - t - p)
+
+unfoldable pub inRange0 : ℕ → ℕ → ℕ → ℕ → Bool
+inRange0 p t first count = leb (first + count) (rangePages p t)
+
+unfoldable pub inRange1 : ℕ → ℕ → ℕ → ℕ → Bool
+inRange1 p t first count = leb (allPages p - rangePages p t) first && leb (first + count) (allPages p)
+
+unfoldable pub pageRangeBad : Regime → ℕ → ℕ → Bool
+pageRangeBad r first count =
+    eqb count 0 || ltb harvestLimit count
+    || not (inRange0 (pageBitsOf r) (r .range0 .tsz) first count || inRange1 (pageBitsOf r) (r .range1 .tsz) first count)
+
+-- 11: a harvest's map has fewer bits than there are pages
+unfoldable pub mapLengthBad : ℕ → ℕ → Bool
+mapLengthBad count bytes = ltb bytes (bytesFor count)

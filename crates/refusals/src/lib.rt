@@ -1,9 +1,10 @@
 // When a call is refused: one test for each row of the table.
 ghost use mathlib.Core.Path.{_≡_};
-ghost use Prim.Native.Nat.{_+_, _-_};
+ghost use Prim.Native.Nat.{_+_, _-_, _<_, _≤_, _^_};
 ghost use lib.Dec.{ltb};
 ghost use Rattle.vmsa.specs.Granules.{Paged};
-ghost use Rattle.refusals.specs.Tests.{memoryPoolBad, poolAddressBad, tszBad, sizesBad, rootBad, rootsBad, attributesBad, dirtyStateBad, accessSizeBad, lastByte, crossing, storeAddressBad};
+ghost use Rattle.vmsa.specs.Limits.{tszLeast, tszMost, harvestLimit, Sized};
+ghost use Rattle.refusals.specs.Tests.{memoryPoolBad, poolAddressBad, tszBad, sizesBad, rootBad, rootsBad, attributesBad, dirtyStateBad, accessSizeBad, lastByte, crossing, storeAddressBad, allPages, rangePages, inRange0, inRange1, pageRangeBad, mapLengthBad};
 use vmsa::Access;
 use vmsa::PhysAddr;
 use vmsa::Pool;
@@ -169,4 +170,62 @@ pub fn store_address_bad(pool: Pool, address: PhysAddr) -> bool
         return true;
     }
     !(at % 8 == 0) | (length - 8 < at - base)
+}
+
+// How many pages a range has, and how many there are.
+fn range_pages(p: u8, t: u8) -> u64
+    requires { ⌜ Paged p × (tszLeast ≤ t) × (t ≤ tszMost) ⌝ }
+    ensures { λ r. ⌜ r ≡ rangePages p t ⌝ }
+{
+    descriptor::power(64 - t - p)
+}
+
+fn all_pages(p: u8) -> u64
+    requires { ⌜ Paged p ⌝ }
+    ensures { λ r. ⌜ (r ≡ allPages p) × (r ≤ 2 ^ 52) ⌝ }
+{
+    descriptor::power(64 - p)
+}
+
+// Whether the pages are all in range 0, and in range 1.
+fn in_range0(p: u8, t: u8, first: u64, count: u64) -> bool
+    requires { ⌜ Paged p × (tszLeast ≤ t) × (t ≤ tszMost) × (first ≤ 2 ^ 52) × (count ≤ harvestLimit) ⌝ }
+    ensures { λ r. ⌜ r ≡ inRange0 p t first count ⌝ }
+{
+    first + count <= range_pages(p, t)
+}
+
+fn in_range1(p: u8, t: u8, first: u64, count: u64) -> bool
+    requires { ⌜ Paged p × (tszLeast ≤ t) × (t ≤ tszMost) × (first ≤ 2 ^ 52) × (count ≤ harvestLimit) ⌝ }
+    ensures { λ r. ⌜ r ≡ inRange1 p t first count ⌝ }
+{
+    let all = all_pages(p);
+    (all - range_pages(p, t) <= first) & (first + count <= all)
+}
+
+// 10: of the pages of a harvest.
+pub fn page_range_bad(r: Regime, first: u64, count: u64) -> bool
+    requires { ⌜ Sized r ⌝ }
+    ensures { λ b. ⌜ b ≡ pageRangeBad r first count ⌝ }
+{
+    let granule = r.granule;
+    let p = granule.page_bits();
+    if count == 0 {
+        return true;
+    }
+    if vmsa::HARVEST_LIMIT < count {
+        return true;
+    }
+    if all_pages(p) < first {
+        return true;
+    }
+    !(in_range0(p, r.range0.tsz, first, count) | in_range1(p, r.range1.tsz, first, count))
+}
+
+// 11: of the map of a harvest.
+pub fn map_length_bad(count: u64, bytes: usize) -> bool
+    requires { ⌜ count ≤ harvestLimit ⌝ }
+    ensures { λ b. ⌜ b ≡ mapLengthBad count bytes ⌝ }
+{
+    (bytes as u64) < (count + 7) / 8
 }

@@ -23,14 +23,14 @@ use Rattle.vmsa.specs.declared.Refusal.{Refusal}
 use Rattle.checks.specs.declared.Checked.{Checked}
 use Rattle.checks.specs.declared.Checked.the-variants.{Accepted, Refused}
 use Rattle.walk.specs.Walk.{revalued}
-use Rattle.tlb.specs.Replies.{Reply, done, refused, answered, Told, told, uncounted, updates, dirties}
+use Rattle.tlb.specs.Replies.{Reply, done, refused, answered, harvested, Told, told, harvestReply, uncounted, updates, dirties}
 use Rattle.checks.specs.Order.{andThen}
 use Rattle.tlb.specs.Walker.{Walker, Spot, lost, found, noRegime, Entry, empty, holds, entryCount, entryOf, heldIn, Walked, putWord, landed, walkFrom, walked, recall, accessHeld, accessBy}
 use Rattle.checks.proofs.Rows.{both}
-use Rattle.session.specs.Model.{noEntries, held, keep, Session, fresh, Stepped, stay, refusal as refusing, Call, setRegime, access, store, dropAll, setBy, setCall, dropCall, storeBy, storeIn, storeCall, learn, accessWith, accessCall, call}
+use Rattle.session.specs.Model.{noEntries, held, keep, Session, fresh, Stepped, stay, refusal as refusing, Call, setRegime, access, store, dropAll, harvest, setBy, setCall, dropCall, storeBy, storeIn, storeCall, emptiedBy, harvestIn, harvestTo, harvestCall, learn, accessWith, accessCall, call}
 use Rattle.calls.specs.Chains.{Event, event}
 use Rattle.rule3.specs.Events.{World, start, after, next, run, lastRegime, empties, asksDrop, settled, Moment, counted, anyCount, momentIn, momentOf, orEarlier, latest}
-use Rattle.rule3.specs.Rule3.{plainly, Unrefused, Stored, StoredIn, Alike, AccessIn, KeepsTo, Every, Plainly, Recalled, Remembers, Rule3}
+use Rattle.rule3.specs.Rule3.{plainly, Unrefused, Stored, StoredIn, Alike, AccessIn, AsPlain, HarvestIn, KeepsTo, Every, Plainly, Recalled, Remembers, Rule3}
 use Rattle.rule3.specs.Lawful.{unlessRefused, restamped, Admitted, Lawful}
 
 keep-length : (entries : List Entry) (p : ℕ) (k : Option Leaf) → length (keep entries p k) ≡ length entries
@@ -121,13 +121,13 @@ module _ (W : Walker) (L : Lawful W) where
 
   pub record Inv (s : Session) (m : List ℕ) (past : List Event) : Type 0 where
     sized : length (s .entries) ≡ entryCount
-    known : s .regime ≡ lastRegime past
-    valid : (R : Regime) → lastRegime past ≡ some R → settingCheck R ≡ Accepted
+    pub known : s .regime ≡ lastRegime past
+    pub valid : (R : Regime) → lastRegime past ≡ some R → settingCheck R ≡ Accepted
     matches : (i : ℕ) → i < entryCount → Matches (length m) (lastRegime past) (getD (s .entries) i empty) (latest W counted past i)
     last : (i : ℕ) → i < entryCount → pageAt (latest W anyCount past i) ≡ pageAt (latest W counted past i)
     fresh-in : settled past ≡ true → (i : ℕ) → i < entryCount → FreshEntry m (getD (s .entries) i empty) (latest W counted past i)
-    bytes : Bytes m
-    every : Every W past
+    pub bytes : Bytes m
+    pub every : Every W past
 
   abbrev pub Then : List ℕ → List Event → Call → Stepped → Type 0
   Then m past c r = Inv (r .session) (r .memory) (event c m r ∷ past)
@@ -217,6 +217,39 @@ module _ (W : Walker) (L : Lawful W) where
         go : (x : Option Regime) → s .regime ≡ x → Then m past (store A v) (stay s (storeIn W x m A v))
         go none q = refusal noRegime
         go (some R) q = at R q (andThen (memoryCheck R (length m)) (storeCheck R A)) refl
+
+    step-harvest : (first count : ℕ) (map : List ℕ) → Then m past (harvest first count map) (harvestCall W s m first count map)
+    step-harvest first count map = go (s .regime) refl
+      where
+        left : Regime → List ℕ
+        left R = W .harvest R first count m map .memory
+
+        filled : Regime → List ℕ
+        filled R = W .harvest R first count m map .map
+
+        plainly-so : (R : Regime) → s .regime ≡ some R → (y : Checked) → W .harvest R first count m map .reply ≡ y
+            → HarvestIn W (lastRegime past) first count map m (harvestReply y (filled R)) (left R)
+        plainly-so R q y e =
+            subst (λ (o : Option Regime). HarvestIn W o first count map m (harvestReply y (filled R)) (left R)) (sym q ∙ I .known)
+            (record { same = ap (λ (x : Checked). harvestReply x (filled R)) (sym e); bytes = refl })
+
+        at : (R : Regime) → s .regime ≡ some R → (y : Checked) → W .harvest R first count m map .reply ≡ y
+            → Then m past (harvest first count map) (harvestTo W s (record { reply = y; memory = left R; map = filled R }))
+        at R q Accepted e =
+            emptied (s .regime) (record { made = harvest first count map; reply = harvested (filled R); found = m; left = left R }) (L .harvest-bytes R first count m map (I .bytes)) (I .every) (I .known)
+            (λ S z. I .valid S (sym (I .known) ∙ z)) (λ i. refl) (λ i. refl) (tt, plainly-so R q Accepted e)
+        at R q (Refused x) e =
+            let same = L .harvest-kept R first count m map x e in
+            carry (record { made = harvest first count map; reply = refused (numberOf x); found = m; left = left R }) I refl (λ i. refl) (I .last)
+            (ap length same) (subst⁻¹ Bytes same (I .bytes))
+            (λ st i lt. subst⁻¹ (λ (l : List ℕ). FreshEntry l (getD (s .entries) i empty) (latest W counted past i)) same (I .fresh-in st i lt))
+            (same, plainly-so R q (Refused x) e)
+
+        go : (x : Option Regime) → s .regime ≡ x → Then m past (harvest first count map) (harvestTo W s (harvestIn W x first count m map))
+        go none q =
+            carry (record { made = harvest first count map; reply = refused noRegime; found = m; left = m }) I refl (λ i. refl) (I .last) refl (I .bytes) (I .fresh-in)
+            (refl, subst (λ (o : Option Regime). HarvestIn W o first count map m (refused noRegime) m) (sym q ∙ I .known) refl)
+        go (some R) q = at R q (W .harvest R first count m map .reply) refl
 
     -- ---- an access
 
@@ -525,6 +558,7 @@ module _ (W : Walker) (L : Lawful W) where
     step (access a) = step-access a
     step (store A v) = step-store A v
     step dropAll = step-drop
+    step (harvest first count map) = step-harvest first count map
 
     -- ---- after the list: a new access, over any bytes of the same length
 

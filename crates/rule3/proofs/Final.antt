@@ -17,13 +17,14 @@ use Rattle.checks.specs.declared.Checked.the-variants.{Accepted, Refused}
 use Rattle.checks.specs.Order.{firstOf, memoryRows, settingRows, regimeRows, accessRows, storeRows, walkCheck, sessionStoreCheck, andThen}
 use Rattle.walk.specs.Walk.{Outcome, walkPool, checked, walk}
 use Rattle.walk.proofs.Ends.{ready}
+use Rattle.harvest.proofs.Laws.{harvest-kept, harvest-bytes}
 use Rattle.tlb.specs.Replies.{Reply, Told, told, replyOf}
 use Rattle.tlb.specs.Walker.{Walked, walked}
 use Rattle.tlb.specs.Ours.{offsetOf, ours}
 use Rattle.checks.proofs.Rows.{first-append, both}
 use Rattle.tlb.proofs.Walking.{walked-pool}
 use Rattle.session.specs.declared.Session.{Session as SessionStruct}
-use Rattle.session.specs.Model.{Session, Handed, Stepped, fresh, Call, setRegime, access, store, dropAll, call}
+use Rattle.session.specs.Model.{Session, Handed, Stepped, fresh, Call, setRegime, access, store, dropAll, harvest, call}
 use Rattle.session.specs.View.{sessionView, viewed}
 use Rattle.session.proofs.Calls.{store-accepted, viewed-leaves}
 use Rattle.session.proofs.Promises.{empty-promise}
@@ -92,6 +93,8 @@ lawful =
       marks = λ r m s q a {at} {u} {n} e h p. marks r m s q (ours .judge r u a) e p;
       unmarked = unmarked;
       quiet = quiet;
+      harvest-kept = harvest-kept;
+      harvest-bytes = harvest-bytes;
       Agree = Agree;
       agree-self = agree-self;
       agree-same = agree-same;
@@ -113,7 +116,7 @@ run-chain s₀ m₀ w chain (c ∷ cs) = run-chain s₀ m₀ (next ours w c) (mo
 -- ---- functions over a session of the code, from a fresh session, that leave what `leaves` says
 
 module _ (F : Functions SessionStruct) (is : Leaving F) (s₀ : SessionStruct) (fresh-start : sessionView s₀ ≡ fresh) where
-  chain-inv : (m₀ : List ℕ) → Bytes m₀ → {s : SessionStruct} {m : List ℕ} {past : List Event} → Chain F s₀ m₀ s m past → Inv ours lawful (sessionView s) m past
+  pub chain-inv : (m₀ : List ℕ) → Bytes m₀ → {s : SessionStruct} {m : List ℕ} {past : List Event} → Chain F s₀ m₀ s m past → Inv ours lawful (sessionView s) m past
   chain-inv m₀ b none-yet = subst⁻¹ (λ (x : Session). Inv ours lawful x m₀ []) fresh-start (begin ours lawful m₀ b)
   chain-inv m₀ b (more {s = s} {m = m} {past = past} {c = c} {x = x} before made) =
       subst⁻¹ (λ (y : Stepped). Inv ours lawful (y .session) (y .memory) (event c m y ∷ past)) (ap viewed (is s m c x made) ∙ viewed-leaves s m c)
@@ -140,7 +143,7 @@ rule-3-next s₀ h = rule-3-next-of Made made-leaves s₀ (begun-fresh s₀ h)
 
 -- ---- the customer's word "drop": it is one way to be settled
 
-settled-by : (o : Option Regime) (e : Event) (c : Call) (x y : Bool) → (x ≡ true → y ≡ true) → pick (isDrop c) true (pick (asksDrop o e c) false x) ≡ true
+settled-by : (o : Option Regime) (e : Event) (c : Call) (x y : Bool) → (x ≡ true → y ≡ true) → pick (isDrop c (e .reply)) true (pick (asksDrop o e c) false x) ≡ true
     → pick (empties c (e .reply)) true (pick (asksDrop o e c) false y) ≡ true
 settled-by o e (setRegime r) x y h k = by (isDone (e .reply))
   where
@@ -154,6 +157,11 @@ settled-by o e (store address value) x y h k = by (isDone (e .reply)) k
     by true k = k
     by false k = h k
 settled-by o e dropAll x y h k = refl
+settled-by o e (harvest first count map) x y h k = by (isDone (e .reply)) k
+  where
+    by : (b : Bool) → pick b true x ≡ true → pick b true y ≡ true
+    by true k = refl
+    by false k = h k
 
 pub drop-settles : (past : List Event) → dropped past ≡ true → settled past ≡ true
 drop-settles [] h = refl

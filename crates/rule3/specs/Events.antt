@@ -8,9 +8,9 @@ use Rattle.descriptor.specs.Bits.{pick}
 use Rattle.vmsa.specs.Answers.{cacheableIn}
 use Rattle.vmsa.specs.declared.Regime.{Regime}
 use Rattle.vmsa.specs.declared.Access.{Access}
-use Rattle.tlb.specs.Replies.{Reply, done, refused, answered}
+use Rattle.tlb.specs.Replies.{Reply, done, refused, answered, harvested}
 use Rattle.tlb.specs.Walker.{Walker, entryOf}
-use Rattle.session.specs.Model.{Session, fresh, Stepped, Call, setRegime, access, store, dropAll, call}
+use Rattle.session.specs.Model.{Session, fresh, Stepped, Call, setRegime, access, store, dropAll, harvest, call}
 use Rattle.calls.specs.Chains.{Event, event, isDone, regimeFrom}
 
 -- a session and its memory after a list of calls, the last call first
@@ -40,12 +40,13 @@ run W w (c ∷ cs) = run W (next W w c) cs
 abbrev pub lastRegime : List Event → Option Regime
 lastRegime past = regimeFrom none past
 
--- an emptying is an accepted set regime or a drop all
+-- an emptying is an accepted set regime, a drop all, or an accepted harvest
 abbrev pub empties : Call → Reply → Bool
 empties (setRegime R) reply = isDone reply
 empties (access a) reply = false
 empties (store address value) reply = false
 empties dropAll reply = true
+empties (harvest first count map) reply = isDone reply
 
 -- a call that asks for a drop: an accepted store, whatever the regime o before it and the memory that it found
 abbrev pub asksDrop : Option Regime → Event → Call → Bool
@@ -53,22 +54,24 @@ asksDrop o e (setRegime R) = false
 asksDrop o e (access a) = false
 asksDrop o e (store address value) = isDone (e .reply)
 asksDrop o e dropAll = false
+asksDrop o e (harvest first count map) = false
 
 -- between here and every accepted store before there is an emptying
 abbrev pub settled : List Event → Bool
 settled [] = true
 settled (e ∷ before) = pick (empties (e .made) (e .reply)) true (pick (asksDrop (lastRegime before) e (e .made)) false (settled before))
 
--- the customer's word: a drop all between here and every accepted store before
-abbrev pub isDrop : Call → Bool
-isDrop (setRegime R) = false
-isDrop (access a) = false
-isDrop (store address value) = false
-isDrop dropAll = true
+-- the customer's word: a drop all between here and every accepted store before; an accepted harvest is its own drop
+abbrev pub isDrop : Call → Reply → Bool
+isDrop (setRegime R) reply = false
+isDrop (access a) reply = false
+isDrop (store address value) reply = false
+isDrop dropAll reply = true
+isDrop (harvest first count map) reply = isDone reply
 
 abbrev pub dropped : List Event → Bool
 dropped [] = true
-dropped (e ∷ before) = pick (isDrop (e .made)) true (pick (asksDrop (lastRegime before) e (e .made)) false (dropped before))
+dropped (e ∷ before) = pick (isDrop (e .made) (e .reply)) true (pick (asksDrop (lastRegime before) e (e .made)) false (dropped before))
 
 -- an earlier access: its regime, its page, and the memory as it left it
 pub record Moment : Type 0 where
@@ -93,8 +96,10 @@ momentOf W ok o (setRegime R) reply m = none
 momentOf W ok o (access a) done m = none
 momentOf W ok o (access a) (refused n) m = none
 momentOf W ok o (access a) (answered x n) m = pick (cacheableIn x && ok n) (momentIn W o a m) none
+momentOf W ok o (access a) (harvested map) m = none
 momentOf W ok o (store address value) reply m = none
 momentOf W ok o dropAll reply m = none
+momentOf W ok o (harvest first count map) reply m = none
 
 abbrev pub orEarlier : ℕ → Option Moment → Option Moment → Option Moment
 orEarlier i none old = old

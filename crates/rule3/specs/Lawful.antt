@@ -12,6 +12,7 @@ use Rattle.vmsa.specs.Kinds.{writes}
 use Rattle.vmsa.specs.declared.Regime.{Regime}
 use Rattle.vmsa.specs.declared.Access.{Access}
 use Rattle.vmsa.specs.declared.Leaf.{Leaf}
+use Rattle.vmsa.specs.declared.Refusal.{Refusal}
 use Rattle.checks.specs.declared.Checked.{Checked}
 use Rattle.checks.specs.declared.Checked.the-variants.{Accepted, Refused}
 use Rattle.tlb.specs.Replies.{Reply, refused, Told, told, updates}
@@ -31,7 +32,7 @@ restamped at v (lost code level n) = lost code level n
 restamped at v (found there u n) = found there (pick (eqb there at) (revalued u v) u) n
 
 module _ (W : Walker) where
-  open Walker W using (memoryCheck, settingCheck, accessCheck, storeCheck, offset, word, page, plain, locate, judge, stamp)
+  open Walker W using (memoryCheck, settingCheck, accessCheck, storeCheck, offset, word, page, plain, locate, judge, stamp, harvest)
 
   -- a regime that was accepted, over a memory that row 1 lets through
   pub record Admitted (R : Regime) (m : List ℕ) : Type 0 where
@@ -60,6 +61,9 @@ module _ (W : Walker) where
     pub unmarked : (o : Result) (v : ℕ) → updates o ≡ false → stamp o v ≡ v
     -- a read, fetch or probe makes no dirty update
     pub quiet : (R : Regime) (u : Leaf) (a : Access) → writes (a .kind) ≡ false → dirtiedIn (judge R u a) ≡ false
+    -- a harvest that is refused leaves the memory; any leaves bytes
+    pub harvest-kept : (R : Regime) (first count : ℕ) (m map : List ℕ) (x : Refusal) → harvest R first count m map .reply ≡ Refused x → harvest R first count m map .memory ≡ m
+    pub harvest-bytes : (R : Regime) (first count : ℕ) (m map : List ℕ) → Bytes m → Bytes (harvest R first count m map .memory)
     -- Agree R h u: a held leaf h still speaks for the leaf u in memory
     pub Agree : Regime → Leaf → Leaf → Type 0
     pub agree-self : (R : Regime) (u : Leaf) (a : Access) → cacheableIn (judge R u a) ≡ true

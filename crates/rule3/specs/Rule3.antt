@@ -9,9 +9,9 @@ use lib.ListN.{length, getD, take, drop}
 use Rattle.vmsa.specs.Kinds.{writes}
 use Rattle.vmsa.specs.declared.Regime.{Regime}
 use Rattle.vmsa.specs.declared.Access.{Access}
-use Rattle.tlb.specs.Replies.{Reply, done, refused, answered, Told, told, replyOf, uncounted, dirties}
+use Rattle.tlb.specs.Replies.{Reply, done, refused, answered, harvested, Told, told, replyOf, harvestReply, uncounted, dirties}
 use Rattle.tlb.specs.Walker.{Walker, noRegime, entryOf}
-use Rattle.session.specs.Model.{Stepped, Call, setRegime, access, store, dropAll, accessCall}
+use Rattle.session.specs.Model.{Stepped, Call, setRegime, access, store, dropAll, harvest, accessCall}
 use Rattle.calls.specs.Chains.{Event}
 use Rattle.rule3.specs.Events.{World, lastRegime, settled, Moment, counted, anyCount, latest}
 
@@ -26,6 +26,7 @@ abbrev pub Unrefused : Reply → Type 0 → Type 0 → Type 0
 Unrefused done X Y = Y
 Unrefused (refused n) X Y = X
 Unrefused (answered o n) X Y = Y
+Unrefused (harvested map) X Y = Y
 
 -- an accepted store leaves the value given in its 8 bytes, in the byte order of R, and every other byte alone
 pub record Stored (W : Walker) (R : Regime) (address value : ℕ) (m left : List ℕ) : Type 0 where
@@ -46,12 +47,22 @@ abbrev pub AccessIn : Walker → Option Regime → Bool → Access → Reply →
 AccessIn W none isSettled a reply m left = reply ≡ refused noRegime
 AccessIn W (some R) isSettled a reply m left = isSettled ≡ true → Alike W R m a reply left
 
+-- a harvest before any accepted regime is refused with 9; after one, it gives the reply, the map and the bytes that the plain harvest made at that moment gives
+pub record AsPlain (W : Walker) (R : Regime) (first count : ℕ) (map m : List ℕ) (reply : Reply) (left : List ℕ) : Type 0 where
+  pub same : reply ≡ harvestReply (W .harvest R first count m map .reply) (W .harvest R first count m map .map)
+  pub bytes : left ≡ W .harvest R first count m map .memory
+
+abbrev pub HarvestIn : Walker → Option Regime → ℕ → ℕ → List ℕ → List ℕ → Reply → List ℕ → Type 0
+HarvestIn W none first count map m reply left = reply ≡ refused noRegime
+HarvestIn W (some R) first count map m reply left = AsPlain W R first count map m reply left
+
 -- what each call keeps to, by the calls before it: set regime, drop all and every refused call leave each byte as they found it
 abbrev pub KeepsTo : Walker → List Event → Call → Reply → List ℕ → List ℕ → Type 0
 KeepsTo W before (setRegime R) reply m left = left ≡ m
 KeepsTo W before (access a) reply m left = Unrefused reply (left ≡ m) (Unit {0}) × AccessIn W (lastRegime before) (settled before) a reply m left
 KeepsTo W before (store address value) reply m left = Unrefused reply (left ≡ m) (StoredIn W (lastRegime before) address value m left)
 KeepsTo W before dropAll reply m left = left ≡ m
+KeepsTo W before (harvest first count map) reply m left = Unrefused reply (left ≡ m) (Unit {0}) × HarvestIn W (lastRegime before) first count map m reply left
 
 abbrev pub Every : Walker → List Event → Type 0
 Every W [] = Unit {0}

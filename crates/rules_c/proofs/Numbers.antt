@@ -16,14 +16,14 @@ use Rattle.vmsa.specs.declared.Success.{Success}
 use Rattle.checks.specs.declared.Checked.{Checked}
 use Rattle.checks.specs.declared.Checked.the-variants.{Accepted, Refused}
 use Rattle.checks.specs.Order.{firstOf, memoryRows, settingRows, storeRows, andThen}
-use Rattle.tlb.specs.Replies.{Reply, done, refused as refusedWith, answered, Told, replyOf, uncounted, dirties}
+use Rattle.tlb.specs.Replies.{Reply, done, refused as refusedWith, answered, harvested, Told, replyOf, replyTo, harvestReply, uncounted, dirties}
 use Rattle.tlb.specs.Ours.{ours}
 use Rattle.session.specs.Model.{Session, setBy, storeBy, storeIn, setRegime, access, store, call}
 use Rattle.session.proofs.Calls.{access-answer}
 use Rattle.words.specs.declared.AnswerWords.{AnswerWords}
 use Rattle.words.specs.Words.{wordsOf, countedWords, refusalByte, replyWords}
 use Rattle.words.proofs.Reply.{reply-words, not-zero}
-use Rattle.rules_c.specs.Readings.{successIn, faultIn, resultIn, answerReply, numberReply}
+use Rattle.rules_c.specs.Readings.{successIn, faultIn, resultIn, answerReply, numberReply, harvestRead}
 
 -- an answer is read back from its numbers
 pub result-in : (x : Result) → resultIn (wordsOf x) ≡ x
@@ -102,6 +102,12 @@ store-in m address value (some r) = by (andThen (firstOf (memoryRows (length m) 
 pub store-read : (s : Session) (m : List ℕ) (address value : ℕ) → numberReply (refusalByte (call ours s m (store address value) .reply)) ≡ call ours s m (store address value) .reply
 store-read s m address value = store-in m address value (s .regime)
 
+-- ---- and every reply of a harvest, with its map
+
+pub harvest-read : (x : Checked) (map : List ℕ) → harvestRead (refusalByte (replyTo x)) map ≡ harvestReply x map
+harvest-read Accepted map = refl
+harvest-read (Refused x) map = rw (not-zero x)
+
 -- ---- the count put to 0, and the dirty mark
 
 pub words-uncounted : (y : Reply) → countedWords 0 (replyWords y) ≡ replyWords (uncounted y)
@@ -109,6 +115,7 @@ unfolding wordsOf
 words-uncounted done = refl
 words-uncounted (refusedWith n) = refl
 words-uncounted (answered o n) = refl
+words-uncounted (harvested map) = refl
 
 clean-byte : (b : Bool) → flagByte b ≡ 0 → b ≡ false
 clean-byte true e = clash (cc)

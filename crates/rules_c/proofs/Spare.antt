@@ -18,18 +18,19 @@ use Rattle.checks.specs.declared.Checked.{Checked}
 use Rattle.checks.specs.declared.Checked.the-variants.{Accepted, Refused}
 use Rattle.checks.specs.Order.{regimeCheck, andThen}
 use Rattle.walk.specs.Walk.{walk}
+use Rattle.harvest.specs.Harvest.{Harvested, harvest as harvestOver}
 use Rattle.tlb.specs.declared.Entry.{Entry as EntryStruct}
-use Rattle.tlb.specs.Replies.{Reply, done, refused, answered, Told, told}
+use Rattle.tlb.specs.Replies.{Reply, done, refused, answered, harvested, Told, told, harvestReply}
 use Rattle.tlb.specs.Walker.{entryCount, Walked, accessIn}
 use Rattle.tlb.specs.Ours.{ours}
 use Rattle.tlb.specs.Entries.{entryView, noEntry, regimeIn, pageFor, keptEntry, accessedEntry}
 use Rattle.session.specs.declared.Session.{Session as SessionStruct}
 use Rattle.tlb.proofs.Access.{Low, low-in}
-use Rattle.session.specs.Model.{Session, Handed, handed, Stepped, Call, setRegime, access, store, dropAll, setBy, storeIn, call}
-use Rattle.session.specs.View.{sessionView, emptyEntries, emptySession, setTo, setAfter, numberIn, entryIn, withEntries, sessionAfter, leaves}
+use Rattle.session.specs.Model.{Session, Handed, handed, Stepped, Call, setRegime, access, store, dropAll, harvest, setBy, storeIn, harvestIn, call}
+use Rattle.session.specs.View.{sessionView, emptyEntries, emptySession, setTo, setAfter, numberIn, entryIn, withEntries, emptied, emptiedAfter, harvestOf, sessionAfter, leaves}
 use Rattle.words.specs.declared.AccessWords.{AccessWords}
 use Rattle.words.specs.declared.AnswerWords.{AnswerWords}
-use Rattle.words.specs.Words.{accessOf, wordsOf, walkWords, refusalByte, replyWords, replied, accessSpare0}
+use Rattle.words.specs.Words.{accessOf, wordsOf, walkWords, refusalByte, replyWords, replied, harvestNumbered, accessSpare0}
 use Rattle.capi_walk.specs.Says.{WalkSays}
 use Rattle.capi_session.specs.Says.{EmptySays, SetSays, AccessSays}
 use Rattle.calls.specs.Chains.{Event, Chain, none-yet, more}
@@ -95,6 +96,9 @@ words-spare r = refl
 set-to : (r : Regime) → setTo (regimeWords r) ≡ sessionSpare0 (setTo (regimeWords r))
 set-to r i = record { regime = words-spare r i; entries = sym (same-entries entryCount) i; set = 1; spare8 = 0; spare16 = 0; spare32 = 0 }
 
+emptied-spare : (s : SessionStruct) → emptied (sessionSpare0 s) ≡ sessionSpare0 (emptied s)
+emptied-spare s = with-entries s emptyEntries emptyEntries (sym (same-entries entryCount))
+
 after : (s : SessionStruct) (m : List ℕ) (c : Call) → sessionAfter (sessionSpare0 s) m c ≡ sessionSpare0 (sessionAfter s m c)
 unfolding regimeOf
 after s m (setRegime r) = by (regimeCheck (length m) r)
@@ -108,7 +112,13 @@ after s m (access a) =
     ∙ ap (setAt (map entrySpare0 (s .entries)) (numberIn s a)) (accessed-entry (s .regime) (s .set) (entryIn s a) m a)
     ∙ sym (map-set entrySpare0 (s .entries) (numberIn s a) (accessedEntry (s .regime) (s .set) (entryIn s a) m a .entry)))
 after s m (store address value) = refl
-after s m dropAll = with-entries s emptyEntries emptyEntries (sym (same-entries entryCount))
+after s m dropAll = emptied-spare s
+after s m (harvest first count pages) =
+    ap (λ (g : Option Regime). emptiedAfter (sessionSpare0 s) (harvestIn ours g first count m pages .reply)) (regime-in (s .regime) (s .set)) ∙ by (harvestOf s first count m pages .reply)
+  where
+    by : (x : Checked) → emptiedAfter (sessionSpare0 s) x ≡ sessionSpare0 (emptiedAfter s x)
+    by Accepted = emptied-spare s
+    by (Refused x) = refl
 
 -- in all that a call leaves: of the session, with its spare numbers put to 0; of memory and reply, the same
 abbrev spareless : Handed SessionStruct Reply → Handed SessionStruct Reply
@@ -132,6 +142,8 @@ told-spare s m (access a) =
     ∙ ap (λ (y : Stepped). told (y .reply) (y .memory)) (access-is s m a)
 told-spare s m (store address value) = ap (λ (g : Option Regime). let t = storeIn ours g m address value in told (t .reply) (t .memory)) (regime-in (s .regime) (s .set))
 told-spare s m dropAll = refl
+told-spare s m (harvest first count pages) =
+    ap (λ (g : Option Regime). let h = harvestIn ours g first count m pages in told (harvestReply (h .reply) (h .map)) (h .memory)) (regime-in (s .regime) (s .set))
 
 leaves-spareless : (s : SessionStruct) (m : List ℕ) (c : Call) → leaves (sessionSpare0 s) m c ≡ spareless (leaves s m c)
 leaves-spareless s m c =
@@ -153,6 +165,7 @@ reply-zero : (x : Reply) → replyWords x .spare ≡ 0
 reply-zero done = words-zero (refusedWith 0)
 reply-zero (refused n) = words-zero (refusedWith n)
 reply-zero (answered o n) = words-zero o
+reply-zero (harvested pages) = words-zero (refusedWith 0)
 
 -- ---- every list
 
@@ -177,6 +190,9 @@ spare-of-c = record {
       (ap (λ (t : Told AnswerWords). t .reply) e, ap (λ (t : Told AnswerWords). t .memory) e);
   set = λ s m g h e s′ t′ m′ n′ k l p q. handed-parts (handed s′ m′ k) (handed t′ n′ l) (p ∙ ap (λ (r : Regime). replied refusalByte (leaves s m (setRegime r))) (regimes-alike g h e) ∙ sym q);
   access = λ s m a b e s′ t′ m′ n′ w x p q. handed-parts (handed s′ m′ w) (handed t′ n′ x) (p ∙ ap (λ (v : Access). replied replyWords (leaves s m (access v))) (accesses-alike a b e) ∙ sym q);
+  harvest = λ m g h first count pages e m′ n′ map′ nap′ k l p q.
+      let z = p ∙ ap (λ (r : Regime). harvestNumbered (harvestOver r first count m pages)) (regimes-alike g h e) ∙ sym q in
+      (ap (λ (t : Harvested ℕ). t .memory) z, ap (λ (t : Harvested ℕ). t .map) z, ap (λ (t : Harvested ℕ). t .reply) z);
   session = λ s t e m c x y p q. handed-parts (spareless x) (spareless y) (ap spareless (made-is p) ∙ sessions s t e m c ∙ sym (ap spareless (made-is q)));
   walked = λ m g a m′ w p. ap (λ (t : Told AnswerWords). t .reply .spare) p ∙ words-zero (walk (regimeOf g) (accessOf a) m .result);
   accessed = λ s m a s′ m′ w p. ap (λ (t : Handed SessionStruct AnswerWords). t .reply .spare) p ∙ reply-zero (leaves s m (access (accessOf a)) .reply);

@@ -11,7 +11,7 @@ use Rattle.vmsa.specs.Words.{regimeOf}
 use Rattle.vmsa.specs.declared.RegimeWords.{RegimeWords}
 use Rattle.tlb.specs.Replies.{done}
 use Rattle.session.specs.declared.Session.{Session as SessionStruct}
-use Rattle.session.specs.Model.{handed, setRegime, access, store, dropAll}
+use Rattle.session.specs.Model.{handed, setRegime, access, store, dropAll, harvest}
 use Rattle.words.specs.declared.AccessWords.{AccessWords}
 use Rattle.words.specs.declared.AnswerWords.{AnswerWords}
 use Rattle.words.specs.Words.{accessOf}
@@ -19,8 +19,10 @@ use Rattle.capi_walk.specs.Says.{WalkSays}
 use Rattle.capi_walk.proofs.Promises.{walkClauses, walk-tells}
 use Rattle.capi_session.specs.Says.{EmptySays, SetSays, AccessSays, StoreSays, DropSays}
 use Rattle.capi_session.proofs.Promises.{emptyClauses, empty-tells, setClauses, set-tells, accessClauses, access-tells, storeClauses, store-tells, dropClauses, drop-tells}
-use Rattle.rules_c.specs.Readings.{answerReply, numberReply}
-use Rattle.rules_c.specs.Code.{MadeC, set-regime, accessed, stored, dropped-all}
+use Rattle.capi_harvest.specs.Says.{SessionHarvestSays}
+use Rattle.capi_harvest.proofs.Promises.{sessionHarvestClauses, session-harvest-tells}
+use Rattle.rules_c.specs.Readings.{answerReply, numberReply, harvestRead}
+use Rattle.rules_c.specs.Code.{MadeC, set-regime, accessed, stored, dropped-all, harvested-pages}
 use Rattle.rules_c.specs.RulesC.{WalkRules}
 use Rattle.rules_c.proofs.Walks.{walk-rules}
 
@@ -61,3 +63,10 @@ pub drop-makes : (W : LogicModel) (lives : Lfts 1) (session : RefT SessionStruct
     → ent (W .𝓤) (dropClauses W lives session .ensures tt tt (at-last session s′, tt)) (fact (W .𝓤) (MadeC (session .now) m dropAll (handed s′ m done)))
 drop-makes W lives session s′ m =
     via (W .𝓤) (fact (W .𝓤) (DropSays (session .now) s′)) (drop-tells W lives session s′) (fact-mono (W .𝓤) _ _ (λ h. dropped-all (session .now) s′ m h))
+
+pub harvest-makes : (W : LogicModel) (lives : Lfts 3) (session : RefT SessionStruct) (memory : RefT (List ℕ)) (first count : ℕ) (map : RefT (List ℕ)) (s′ : SessionStruct) (m′ map′ : List ℕ) (n : ℕ)
+    → ent (W .𝓤) (sessionHarvestClauses W lives session memory first count map .ensures tt n (at-last session s′, (at-last memory m′, (first, (count, (at-last map map′, tt))))))
+    (fact (W .𝓤) (MadeC (session .now) (memory .now) (harvest first count (map .now)) (handed s′ m′ (harvestRead n map′))))
+harvest-makes W lives session memory first count map s′ m′ map′ n =
+    via (W .𝓤) (fact (W .𝓤) (SessionHarvestSays (session .now) (memory .now) first count (map .now) s′ m′ map′ n)) (session-harvest-tells W lives session memory first count map s′ m′ map′ n)
+    (fact-mono (W .𝓤) _ _ (λ h. harvested-pages (session .now) (memory .now) first count (map .now) s′ m′ map′ n h))

@@ -1,11 +1,12 @@
 -- What C reads in the numbers that it gets (RULES 15).
 use Prim.Native.Nat.{ℕ}
+use mathlib.Core.List.{List}
 use lib.Dec.{eqb}
 use Rattle.descriptor.specs.Bits.{pick}
 use Rattle.vmsa.specs.Words.{flag}
 use Rattle.vmsa.specs.Answers.{Result, success, fault, refused, Faulted}
 use Rattle.vmsa.specs.declared.Success.{Success}
-use Rattle.tlb.specs.Replies.{Reply, done, refused as refusedWith, replyOf}
+use Rattle.tlb.specs.Replies.{Reply, done, refused as refusedWith, harvested, replyOf}
 use Rattle.words.specs.declared.AnswerWords.{AnswerWords}
 
 abbrev pub successIn : AnswerWords → Success
@@ -34,3 +35,7 @@ answerReply w = replyOf (resultIn w)
 -- a number of a set regime or a store: 0 is done, any other that of a refusal
 abbrev pub numberReply : ℕ → Reply
 numberReply n = pick (eqb n 0) done (refusedWith n)
+
+-- that of a harvest, with the map that it left
+abbrev pub harvestRead : ℕ → List ℕ → Reply
+harvestRead n map = pick (eqb n 0) (harvested map) (refusedWith n)

@@ -14,6 +14,7 @@ use Rattle.words.specs.declared.AnswerWords.{AnswerWords}
 use Rattle.words.specs.Words.{accessSpare0}
 use Rattle.capi_walk.specs.Says.{WalkSays}
 use Rattle.capi_session.specs.Says.{EmptySays, SetSays, AccessSays}
+use Rattle.capi_harvest.specs.Says.{HarvestSays}
 use Rattle.calls.specs.Chains.{Event, Chain}
 use Rattle.rules_c.specs.Code.{MadeC}
 
@@ -36,6 +37,8 @@ pub record SpareOfC : Type 0 where
       → (s′ t′ : SessionStruct) (m′ n′ : List ℕ) (k l : ℕ) → SetSays s m g s′ m′ k → SetSays s m h t′ n′ l → (s′ ≡ t′) × (m′ ≡ n′) × (k ≡ l)
   pub access : (s : SessionStruct) (m : List ℕ) (a b : AccessWords) → accessSpare0 a ≡ accessSpare0 b
       → (s′ t′ : SessionStruct) (m′ n′ : List ℕ) (w x : AnswerWords) → AccessSays s m a s′ m′ w → AccessSays s m b t′ n′ x → (s′ ≡ t′) × (m′ ≡ n′) × (w ≡ x)
+  pub harvest : (m : List ℕ) (g h : RegimeWords) (first count : ℕ) (map : List ℕ) → regimeSpare0 g ≡ regimeSpare0 h
+      → (m′ n′ map′ nap′ : List ℕ) (k l : ℕ) → HarvestSays m g first count map m′ map′ k → HarvestSays m h first count map n′ nap′ l → (m′ ≡ n′) × (map′ ≡ nap′) × (k ≡ l)
   -- and sessions: the same memory and reply, and sessions that differ in spare numbers at most
   pub session : (s t : SessionStruct) → sessionSpare0 s ≡ sessionSpare0 t → (m : List ℕ) (c : Call) (x y : Handed SessionStruct Reply) → MadeC s m c x → MadeC t m c y
       → (sessionSpare0 (x .session) ≡ sessionSpare0 (y .session)) × (x .memory ≡ y .memory) × (x .reply ≡ y .reply)

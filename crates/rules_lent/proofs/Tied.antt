@@ -13,12 +13,12 @@ use Rattle.vmsa.specs.declared.Access.{Access}
 use Rattle.vmsa.specs.declared.Answer.{Answer}
 use Rattle.vmsa.specs.declared.PhysAddr.{PhysAddr}
 use Rattle.checks.specs.declared.Checked.{Checked}
-use Rattle.tlb.specs.Replies.{done, replyOf, replyTo}
+use Rattle.tlb.specs.Replies.{done, replyOf, replyTo, harvestReply}
 use Rattle.session.specs.declared.Session.{Session as SessionStruct}
-use Rattle.session.specs.Model.{handed, setRegime, access, store, dropAll}
-use Rattle.lent.specs.Says.{SetSays, AccessSays, StoreSays, DropSays}
-use Rattle.lent.proofs.Promises.{setClauses, set-tells, accessClauses, access-tells, storeClauses, store-tells, dropClauses, drop-tells}
-use Rattle.rules_lent.specs.Code.{MadeLent, set-regime, accessed, stored, dropped-all}
+use Rattle.session.specs.Model.{handed, setRegime, access, store, dropAll, harvest}
+use Rattle.lent.specs.Says.{SetSays, AccessSays, StoreSays, DropSays, HarvestSays}
+use Rattle.lent.proofs.Promises.{setClauses, set-tells, accessClauses, access-tells, storeClauses, store-tells, dropClauses, drop-tells, harvestClauses, harvest-tells}
+use Rattle.rules_lent.specs.Code.{MadeLent, set-regime, accessed, stored, dropped-all, harvested-pages}
 
 module _ (W : LogicModel) (lives : Lfts 2) (session : RefT SessionStruct) (memory : RefT (List ℕ)) (s′ : SessionStruct) (m′ : List ℕ) where
   pub set-makes : (r : Regime) (x : Checked)
@@ -47,3 +47,10 @@ pub drop-makes : (W : LogicModel) (lives : Lfts 1) (session : RefT SessionStruct
     → ent (W .𝓤) (dropClauses W lives session .ensures tt tt (at-last session s′, tt)) (fact (W .𝓤) (MadeLent (session .now) m dropAll (handed s′ m done)))
 drop-makes W lives session s′ m =
     via (W .𝓤) (fact (W .𝓤) (DropSays (session .now) s′)) (drop-tells W lives session s′) (fact-mono (W .𝓤) _ _ (λ h. dropped-all (session .now) s′ m h))
+
+pub harvest-makes : (W : LogicModel) (lives : Lfts 3) (session : RefT SessionStruct) (memory : RefT (List ℕ)) (first count : ℕ) (map : RefT (List ℕ)) (s′ : SessionStruct) (m′ map′ : List ℕ) (x : Checked)
+    → ent (W .𝓤) (harvestClauses W lives session memory first count map .ensures tt x (at-last session s′, (at-last memory m′, (first, (count, (at-last map map′, tt))))))
+    (fact (W .𝓤) (MadeLent (session .now) (memory .now) (harvest first count (map .now)) (handed s′ m′ (harvestReply x map′))))
+harvest-makes W lives session memory first count map s′ m′ map′ x =
+    via (W .𝓤) (fact (W .𝓤) (HarvestSays (session .now) (memory .now) first count (map .now) s′ m′ map′ x)) (harvest-tells W lives session memory first count map s′ m′ map′ x)
+    (fact-mono (W .𝓤) _ _ (λ h. harvested-pages (session .now) (memory .now) first count (map .now) s′ m′ map′ x h))

@@ -19,6 +19,7 @@ use Rattle.vmsa.specs.declared.RegimeWords.{RegimeWords}
 use Rattle.vmsa.specs.declared.Pool.{Pool}
 use Rattle.vmsa.specs.declared.Access.{Access}
 use Rattle.vmsa.specs.declared.Leaf.{Leaf}
+use Rattle.vmsa.specs.declared.Refusal.the-variants.{NoRegime}
 use Rattle.vmsa.proofs.Words.{regime-words}
 use Rattle.checks.specs.declared.Checked.{Checked}
 use Rattle.checks.specs.declared.Checked.the-variants.{Accepted, Refused}
@@ -26,6 +27,7 @@ use Rattle.refusals.specs.Tests.{storeAddressBad}
 use Rattle.checks.specs.Order.{memoryRows, settingRows, storeRows, regimeCheck, sessionStoreCheck}
 use Rattle.checks.proofs.Accept.{clear, pooled}
 use Rattle.walk.proofs.Parts.{length-part}
+use Rattle.harvest.specs.Harvest.{Harvested, harvested, harvest as harvestOver}
 use Rattle.tlb.specs.declared.Entry.{Entry as EntryStruct}
 use Rattle.tlb.specs.Replies.{Reply, Told, told, replyTo, refused}
 use Rattle.tlb.specs.Walker.{noRegime, Entry, empty, entryOf, Walked, putWord, accessIn}
@@ -35,8 +37,8 @@ use Rattle.checks.proofs.Rows.{first-append}
 use Rattle.tlb.proofs.Walking.{put-is}
 use Rattle.tlb.proofs.Access.{keptIn, accessed-view, AnAnswer, answer-in, hit-is-access}
 use Rattle.session.specs.declared.Session.{Session as SessionStruct}
-use Rattle.session.specs.Model.{Session, Handed, handed, Stepped, keep, setBy, setCall, learn, accessWith, accessCall, storeBy, storeIn, Call, setRegime, access, store, dropAll, call}
-use Rattle.session.specs.View.{sessionView, viewed, setTo, setAfter, entryIn, withEntry, withEntries, accessedSession, leaves}
+use Rattle.session.specs.Model.{Session, Handed, handed, Stepped, keep, setBy, setCall, learn, accessWith, accessCall, storeBy, storeIn, Call, setRegime, access, store, dropAll, harvest, harvestIn, emptiedBy, call}
+use Rattle.session.specs.View.{sessionView, viewed, setTo, setAfter, entryIn, withEntry, withEntries, accessedSession, emptiedAfter, harvestOf, harvestLeaves, leaves}
 use Rattle.descriptor.proofs.Lists.{set-same, map-set}
 
 -- ---- a set regime
@@ -118,6 +120,29 @@ module _ (regime : RegimeWords) (set address value : ℕ) (m : List ℕ) where
 pub store-leaves : (s : SessionStruct) (m : List ℕ) (address value : ℕ) (t : Told Reply) → t ≡ storeIn ours (regimeIn (s .regime) (s .set)) m address value
     → handed s (t .memory) (t .reply) ≡ leaves s m (store address value)
 store-leaves s m address value t e = ap (λ (x : Told Reply). handed s (x .memory) (x .reply)) e
+
+-- ---- a harvest
+
+module _ (regime : RegimeWords) (set first count : ℕ) (m map : List ℕ) where
+  abbrev harvesting : Bool → Harvested Checked
+  harvesting b = harvestIn ours (pick b (some (regimeOf regime)) none) first count m map
+
+  pub harvest-unset : flag set ≡ false → harvested (Refused NoRegime) m map ≡ harvestIn ours (regimeIn regime set) first count m map
+  harvest-unset f = ap harvesting (sym f)
+
+  pub harvest-set : flag set ≡ true → (r : Regime) → r ≡ regimeOf regime → harvestOver r first count m map ≡ harvestIn ours (regimeIn regime set) first count m map
+  harvest-set f r q = ap (λ (y : Regime). harvestIn ours (some y) first count m map) q ∙ ap harvesting (sym f)
+
+-- by what the harvest handed back, and by which case of it that was
+pub harvest-leaves : (s : SessionStruct) (first count : ℕ) (m map after filled : List ℕ) (x y : Checked) → x ≡ y
+    → harvested x after filled ≡ harvestIn ours (regimeIn (s .regime) (s .set)) first count m map
+    → (emptiedAfter s y, harvested y after filled) ≡ harvestLeaves s first count m map
+harvest-leaves s first count m map after filled x y q e =
+    ap (λ (h : Harvested Checked). (emptiedAfter s (h .reply), h)) (ap (λ (z : Checked). harvested z after filled) (sym q) ∙ e)
+
+emptied-view : (s : SessionStruct) (x : Checked) → sessionView (emptiedAfter s x) ≡ emptiedBy ours (sessionView s) x
+emptied-view s Accepted = refl
+emptied-view s (Refused x) = refl
 
 -- ---- an access, by the one entry that it can change
 
@@ -205,6 +230,7 @@ session-view s m (setRegime r) = set-view s m r (regimeCheck (length m) r) ∙ a
 session-view s m (access a) = access-view s m a
 session-view s m (store address value) = refl
 session-view s m dropAll = refl
+session-view s m (harvest first count map) = emptied-view s (harvestOf s first count m map .reply)
 
 pub viewed-leaves : (s : SessionStruct) (m : List ℕ) (c : Call) → viewed (leaves s m c) ≡ call ours (sessionView s) m c
 viewed-leaves s m c = ap (λ (t : Session). handed t (call ours (sessionView s) m c .memory) (call ours (sessionView s) m c .reply)) (session-view s m c)

@@ -13,19 +13,21 @@ use Rattle.vmsa.specs.declared.PhysAddr.{PhysAddr}
 use Rattle.vmsa.proofs.Answers.{number-settles}
 use Rattle.checks.specs.declared.Checked.{Checked}
 use Rattle.checks.specs.declared.Checked.the-variants.{Accepted, Refused}
-use Rattle.tlb.specs.Replies.{Reply, done, replyOf, replyTo}
+use Rattle.tlb.specs.Replies.{Reply, done, replyOf, replyTo, harvestReply}
 use Rattle.tlb.proofs.Access.{AnAnswer, reply-settles}
 use Rattle.session.specs.declared.Session.{Session as SessionStruct}
 use Rattle.session.specs.declared.Changed.{Changed}
 use Rattle.session.specs.declared.Accessed.{Accessed}
-use Rattle.session.specs.Model.{Handed, handed, setRegime, access, store, dropAll}
-use Rattle.session.specs.View.{sessionView, emptySession, leaves}
+use Rattle.harvest.specs.Harvest.{Harvested, harvested}
+use Rattle.session.specs.Model.{Handed, handed, setRegime, access, store, dropAll, harvest}
+use Rattle.session.specs.View.{sessionView, emptySession, leaves, harvestLeaves}
 use Rattle.session.proofs.Calls.{access-answer}
 use Rattle.session.proofs.Session.empty.Reads as Empty
 use Rattle.session.proofs.Session.set_regime.Reads as SetRegime
 use Rattle.session.proofs.Session.access.Reads as AccessOf
 use Rattle.session.proofs.Session.store.Reads as Store
 use Rattle.session.proofs.Session.invalidate_all.Reads as InvalidateAll
+use Rattle.session.proofs.Session.harvest.Reads as Harvest
 
 pub empty-promise : (s : SessionStruct) → Empty.Learnt tt tt s tt → s ≡ emptySession
 empty-promise s h = h
@@ -46,6 +48,18 @@ module _ (lives : Lfts 1) (s : SessionStruct) (memory : RefT (List ℕ)) where
 
 pub drop-promise : (s after : SessionStruct) → InvalidateAll.Learnt tt (s, tt) after (s, tt) → (m : List ℕ) → handed after m done ≡ leaves s m dropAll
 drop-promise s after h m = ap (λ (t : SessionStruct). handed t m done) h
+
+module _ (lives : Lfts 2) (s : SessionStruct) (memory : RefT (List ℕ)) (first count : ℕ) (map : RefT (List ℕ)) where
+  pub harvest-promise : (after filled : List ℕ) (x : Changed)
+      → Harvest.Learnt lives (s, (memory, (first, (count, (map, tt))))) x (s, (at-last memory after, (first, (count, (at-last map filled, tt)))))
+      → (x .session, harvested (x .reply) after filled) ≡ harvestLeaves s first count (memory .now) (map .now)
+  harvest-promise after filled x h = h
+
+-- what a harvest leaves, as a call of a session
+pub harvest-handed : (s s′ : SessionStruct) (first count : ℕ) (m map after filled : List ℕ) (x : Checked) → (s′, harvested x after filled) ≡ harvestLeaves s first count m map
+    → handed s′ after (harvestReply x filled) ≡ leaves s m (harvest first count map)
+harvest-handed s s′ first count m map after filled x e =
+    ap (λ (y : SessionStruct × Harvested Checked). handed (y .0) (y .1 .memory) (harvestReply (y .1 .reply) (y .1 .map))) e
 
 -- ---- and that is one result, each part of it: no two results meet a contract
 
@@ -81,6 +95,15 @@ module _ (lives : Lfts 1) (s : SessionStruct) (memory : RefT (List ℕ)) where
       → Store.Learnt lives (s, (memory, (address, (value, tt)))) y (s, (at-last memory n, (address, (value, tt)))) → (x ≡ y) × (m ≡ n)
   store-one address value m n x y h k = changed-one m n x y (store-promise lives s memory address value m x h ∙ sym (store-promise lives s memory address value n y k))
 
+module _ (lives : Lfts 2) (s : SessionStruct) (memory : RefT (List ℕ)) (first count : ℕ) (map : RefT (List ℕ)) where
+  pub harvest-one : (m n filled others : List ℕ) (x y : Changed)
+      → Harvest.Learnt lives (s, (memory, (first, (count, (map, tt))))) x (s, (at-last memory m, (first, (count, (at-last map filled, tt)))))
+      → Harvest.Learnt lives (s, (memory, (first, (count, (map, tt))))) y (s, (at-last memory n, (first, (count, (at-last map others, tt))))) → (x ≡ y) × (m ≡ n) × (filled ≡ others)
+  harvest-one m n filled others x y h k =
+      let e = harvest-promise lives s memory first count map m filled x h ∙ sym (harvest-promise lives s memory first count map n others y k) in
+      let z : x ≡ y = λ i. record { session = e i .0; reply = e i .1 .reply } in
+      (z, ap (λ (t : SessionStruct × Harvested Checked). t .1 .memory) e, ap (λ (t : SessionStruct × Harvested Checked). t .1 .map) e)
+
 -- nobody has to check first: no call asks anything of its caller
 module _ (lives : Lfts 1) (s : SessionStruct) (memory : RefT (List ℕ)) where
   pub empty-free : Empty.Asked tt tt
@@ -97,3 +120,6 @@ module _ (lives : Lfts 1) (s : SessionStruct) (memory : RefT (List ℕ)) where
 
   pub drop-free : InvalidateAll.Asked tt (s, tt)
   drop-free = tt
+
+pub harvest-free : (lives : Lfts 2) (s : SessionStruct) (memory : RefT (List ℕ)) (first count : ℕ) (map : RefT (List ℕ)) → Harvest.Asked lives (s, (memory, (first, (count, (map, tt)))))
+harvest-free lives s memory first count map = tt

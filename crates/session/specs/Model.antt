@@ -1,4 +1,4 @@
--- The session (RULES 10): its four calls as functions on a session and a memory, over any walker.
+-- The session (RULES 10): its five calls as functions on a session and a memory, over any walker.
 use Prim.Native.Nat.{ℕ}
 use mathlib.Core.List.{List}
 use mathlib.Core.Option.{Option, none, some}
@@ -9,8 +9,10 @@ use Rattle.vmsa.specs.declared.Access.{Access}
 use Rattle.vmsa.specs.declared.Leaf.{Leaf}
 use Rattle.checks.specs.declared.Checked.{Checked}
 use Rattle.checks.specs.declared.Checked.the-variants.{Accepted, Refused}
-use Rattle.tlb.specs.Replies.{Reply, done, refused, Told, told}
+use Rattle.tlb.specs.Replies.{Reply, done, refused, Told, told, harvestReply}
 use Rattle.checks.specs.Order.{andThen}
+use Rattle.vmsa.specs.declared.Refusal.the-variants.{NoRegime}
+use Rattle.harvest.specs.Harvest.{Harvested, harvested}
 use Rattle.tlb.specs.Walker.{Walker, noRegime, Entry, empty, holds, entryCount, entryOf, heldIn, Walked, putWord, accessUnder}
 
 -- 64 empty entries
@@ -59,6 +61,7 @@ pub data Call : Type 0 where
   access : Access → Call
   store : (address value : ℕ) → Call
   dropAll : Call
+  harvest : (first count : ℕ) (map : List ℕ) → Call
 
 module _ (W : Walker) where
   open Walker W using (memoryCheck, settingCheck, storeCheck, offset, page)
@@ -102,8 +105,25 @@ module _ (W : Walker) where
   abbrev pub dropCall : Session → List ℕ → Stepped
   dropCall s m = handed (record { regime = s .regime; entries = noEntries }) m done
 
+  -- ---- harvest: the plain harvest under the session's regime; accepted, it empties every entry
+
+  abbrev pub harvestIn : Option Regime → ℕ → ℕ → List ℕ → List ℕ → Harvested Checked
+  harvestIn none first count m map = harvested (Refused NoRegime) m map
+  harvestIn (some R) first count m map = W .harvest R first count m map
+
+  abbrev pub emptiedBy : Session → Checked → Session
+  emptiedBy s Accepted = record { regime = s .regime; entries = noEntries }
+  emptiedBy s (Refused x) = s
+
+  abbrev pub harvestTo : Session → Harvested Checked → Stepped
+  harvestTo s h = handed (emptiedBy s (h .reply)) (h .memory) (harvestReply (h .reply) (h .map))
+
+  abbrev pub harvestCall : Session → List ℕ → ℕ → ℕ → List ℕ → Stepped
+  harvestCall s m first count map = harvestTo s (harvestIn (s .regime) first count m map)
+
   abbrev pub call : Session → List ℕ → Call → Stepped
   call s m (setRegime R) = setCall s m R
   call s m (access a) = accessCall s m a
   call s m (store address value) = storeCall s m address value
   call s m dropAll = dropCall s m
+  call s m (harvest first count map) = harvestCall s m first count map

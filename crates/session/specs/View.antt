@@ -17,7 +17,8 @@ use Rattle.tlb.specs.Walker.{entryCount}
 use Rattle.tlb.specs.Ours.{ours}
 use Rattle.tlb.specs.Entries.{entryView, noEntry, regimeIn, entryFor, accessedEntry}
 use Rattle.session.specs.declared.Session.{Session as SessionStruct}
-use Rattle.session.specs.Model.{Session, Handed, handed, Stepped, Call, setRegime, access, store, dropAll, call}
+use Rattle.harvest.specs.Harvest.{Harvested}
+use Rattle.session.specs.Model.{Session, Handed, handed, Stepped, Call, setRegime, access, store, dropAll, harvest, harvestIn, call}
 
 abbrev pub sessionView : SessionStruct → Session
 sessionView s = record { regime = regimeIn (s .regime) (s .set); entries = map entryView (s .entries) }
@@ -72,12 +73,25 @@ accessedSession s m a = withEntry s (numberIn s a) (accessedEntry (s .regime) (s
 abbrev pub emptied : SessionStruct → SessionStruct
 emptied s = withEntries s emptyEntries
 
+-- a harvest: accepted, every entry is the empty one; refused, the session given
+abbrev pub emptiedAfter : SessionStruct → Checked → SessionStruct
+emptiedAfter s Accepted = emptied s
+emptiedAfter s (Refused x) = s
+
+abbrev pub harvestOf : SessionStruct → ℕ → ℕ → List ℕ → List ℕ → Harvested Checked
+harvestOf s first count m map = harvestIn ours (regimeHeld s) first count m map
+
 abbrev pub sessionAfter : SessionStruct → List ℕ → Call → SessionStruct
 sessionAfter s m (setRegime r) = setAfter s r (regimeCheck (length m) r)
 sessionAfter s m (access a) = accessedSession s m a
 sessionAfter s m (store address value) = s
 sessionAfter s m dropAll = emptied s
+sessionAfter s m (harvest first count map) = emptiedAfter s (harvestOf s first count m map .reply)
 
 -- what a call leaves: this session, and the memory and the reply of the model
 abbrev pub leaves : SessionStruct → List ℕ → Call → Handed SessionStruct Reply
 leaves s m c = handed (sessionAfter s m c) (call ours (sessionView s) m c .memory) (call ours (sessionView s) m c .reply)
+
+-- a harvest leaves a map too, refused or not: this session, and what the plain harvest leaves
+abbrev pub harvestLeaves : SessionStruct → ℕ → ℕ → List ℕ → List ℕ → SessionStruct × Harvested Checked
+harvestLeaves s first count m map = (emptiedAfter s (harvestOf s first count m map .reply), harvestOf s first count m map)

@@ -1,11 +1,12 @@
-// The session: a regime and 64 TLB entries, and the four calls. Each takes the session by value and hands it back.
+// The session: a regime and 64 TLB entries, and the five calls. Each takes the session by value and hands it back.
 ghost use mathlib.Core.Path.{_≡_};
 ghost use Rattle.vmsa.specs.Answers.{view};
 ghost use Rattle.tlb.specs.Replies.{told, replyOf, replyTo};
 ghost use Rattle.tlb.specs.Ours.{ours};
 ghost use Rattle.tlb.specs.Entries.{regimeIn};
-ghost use Rattle.session.specs.Model.{handed, setRegime, access, store, storeIn};
-ghost use Rattle.session.specs.View.{emptySession, emptied, leaves};
+ghost use Rattle.harvest.specs.Harvest.{harvested};
+ghost use Rattle.session.specs.Model.{handed, setRegime, access, store, storeIn, harvestIn};
+ghost use Rattle.session.specs.View.{emptySession, emptied, leaves, harvestLeaves};
 use checks::Checked;
 use tlb::ENTRIES;
 use tlb::Entry;
@@ -27,7 +28,7 @@ pub struct Session {
     pub spare32: u32,
 }
 
-// What a set regime or a store hands back.
+// What a set regime, a store or a harvest hands back.
 pub struct Changed {
     pub session: Session,
     pub reply: Checked,
@@ -64,6 +65,24 @@ pub fn store_in(
             Checked::Accepted
         }
     }
+}
+
+// A harvest in every session that has this regime: refused, or else done.
+pub fn harvest_in(
+    regime: RegimeWords,
+    set: u8,
+    memory: &mut [u8],
+    first: u64,
+    count: u64,
+    map: &mut [u8],
+) -> Checked
+    ensures { λ x. ⌜ harvested x (now (memory .exit)) (now (map .exit)) ≡ harvestIn ours (regimeIn regime set) first count (now (memory .entry)) (now (map .entry)) ⌝ }
+{
+    if set != 0 {
+        let r = regime.regime();
+        return harvest::harvest(memory, r, first, count, map);
+    }
+    Checked::Refused(Refusal::NoRegime)
 }
 
 impl Session {
@@ -143,6 +162,25 @@ impl Session {
         Changed {
             session: self,
             reply: reply,
+        }
+    }
+
+    // Harvests count pages from page first on into the lent map, and empties every entry: refused, or else done.
+    pub fn harvest(self, memory: &mut [u8], first: u64, count: u64, map: &mut [u8]) -> Changed
+        ensures { λ x. ⌜ (x .session, harvested (x .reply) (now (memory .exit)) (now (map .exit))) ≡ harvestLeaves self first count (now (memory .entry)) (now (map .entry)) ⌝ }
+    {
+        match harvest_in(self.regime, self.set, memory, first, count, map) {
+            Checked::Refused(refused) => Changed {
+                session: self,
+                reply: Checked::Refused(refused),
+            },
+            Checked::Accepted => {
+                let dropped = self.invalidate_all();
+                Changed {
+                    session: dropped,
+                    reply: Checked::Accepted,
+                }
+            }
         }
     }
 }

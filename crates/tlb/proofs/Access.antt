@@ -28,7 +28,7 @@ use Rattle.walk.proofs.Settled.{low-decision}
 use Rattle.decision.specs.Decision.{decision}
 use Rattle.walk.specs.Walk.{revalued}
 use Rattle.tlb.specs.declared.Entry.{Entry as EntryStruct}
-use Rattle.tlb.specs.Replies.{Reply, done, refused, answered, replyOf}
+use Rattle.tlb.specs.Replies.{Reply, done, refused, answered, harvested, replyOf}
 use Rattle.tlb.specs.Walker.{Spot, lost, found as foundAt, noRegime, Entry, holds, heldIn, Walked, declined, walkFrom, walked, accessHeld, accessBy, accessUnder, accessIn}
 use Rattle.tlb.specs.Ours.{usable, located, judged, stamped, ours}
 use Rattle.tlb.specs.Entries.{entryView, keptEntry, entryAnswer, checkedReply, entryReply, regimeIn, walkedView}
@@ -150,6 +150,7 @@ counted : Reply → Result
 counted done = refusedWith 0
 counted (refused n) = refusedWith n
 counted (answered o n) = countedWith o n
+counted (harvested map) = refusedWith 0
 
 recounted : (o : Result) → counted (replyOf o) ≡ o
 unfolding counted countedWith

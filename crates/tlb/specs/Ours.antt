@@ -18,6 +18,7 @@ use Rattle.checks.specs.Order.{firstOf, memoryRows, settingRows, accessRows, st
 use Rattle.lookup.specs.Trace.{End, fault, leaf, Trace}
 use Rattle.decision.specs.Decision.{decision, updated}
 use Rattle.walk.specs.Walk.{poolBytes, traced, walk}
+use Rattle.harvest.specs.Harvest.{harvest}
 use Rattle.tlb.specs.Walker.{Spot, lost, found, Walker}
 
 -- where the descriptor at a physical address lies in the memory (RULES 2.3)
@@ -67,4 +68,5 @@ ours =
       locate = located;
       judge = judged;
       stamp = stamped;
+      harvest = harvest;
     }

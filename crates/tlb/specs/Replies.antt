@@ -6,11 +6,12 @@ use Rattle.vmsa.specs.Answers.{Result, success, fault, refused as refusedWith, 
 use Rattle.checks.specs.declared.Checked.{Checked}
 use Rattle.checks.specs.declared.Checked.the-variants.{Accepted, Refused}
 
--- done: an accepted call that is no access. answered: an access's answer with its count put to 0, and the count
+-- done: an accepted call that is neither an access nor a harvest. harvested: an accepted harvest, with the map that it left. answered: an access's answer with its count put to 0, and the count
 pub data Reply : Type 0 where
   done : Reply
   refused : ℕ → Reply
   answered : Result → ℕ → Reply
+  harvested : List ℕ → Reply
 
 -- what a call tells: its reply, in whatever form A, and the memory afterwards
 pub record Told (A : Type 0) : Type 0 where
@@ -42,11 +43,17 @@ abbrev pub replyTo : Checked → Reply
 replyTo Accepted = done
 replyTo (Refused x) = refused (numberOf x)
 
+-- the reply of a harvest, which left a map
+abbrev pub harvestReply : Checked → List ℕ → Reply
+harvestReply Accepted map = harvested map
+harvestReply (Refused x) map = refused (numberOf x)
+
 -- a reply with its count of reads, where there is one, put to 0
 abbrev pub uncounted : Reply → Reply
 uncounted done = done
 uncounted (refused n) = refused n
 uncounted (answered o n) = answered o 0
+uncounted (harvested map) = harvested map
 
 -- an answer that makes any update
 abbrev pub updates : Result → Bool
@@ -59,3 +66,4 @@ abbrev pub dirties : Reply → Bool
 dirties done = false
 dirties (refused n) = false
 dirties (answered o n) = dirtiedIn o
+dirties (harvested map) = false

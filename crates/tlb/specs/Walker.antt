@@ -15,6 +15,7 @@ use Rattle.checks.specs.declared.Checked.{Checked}
 use Rattle.checks.specs.declared.Checked.the-variants.{Accepted, Refused}
 use Rattle.checks.specs.Order.{andThen}
 use Rattle.walk.specs.Walk.{Outcome, revalued}
+use Rattle.harvest.specs.Harvest.{Harvested}
 use Rattle.tlb.specs.Replies.{Reply, refused, answered, updates}
 
 -- how steps 1 to 5 end: a fault's code and level, or the offset of a leaf's descriptor in the memory and the leaf; then the count of reads
@@ -41,6 +42,8 @@ pub record Walker : Type 0 where
   pub locate : Regime → List ℕ → ℕ → Spot
   pub judge : Regime → Leaf → Access → Result
   pub stamp : Result → ℕ → ℕ
+  -- the plain harvest of so many pages from a first one on, over a memory and a map
+  pub harvest : Regime → ℕ → ℕ → List ℕ → List ℕ → Harvested Checked
 
 -- refusal 9: a session has no regime yet
 abbrev pub noRegime : ℕ

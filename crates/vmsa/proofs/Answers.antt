@@ -10,7 +10,7 @@ use Rattle.descriptor.specs.Bits.{pick}
 use Rattle.descriptor.proofs.Tests.{clash}
 use Rattle.vmsa.specs.Answers.{Result, success, fault, refused, Faulted, numberOf, codeOf, view}
 use Rattle.vmsa.specs.declared.Refusal.{Refusal}
-use Rattle.vmsa.specs.declared.Refusal.the-variants.{MemoryPool, PoolAddress, Sizes, Root, Attributes, AccessSize, PageCrossing, StoreAddress, NoRegime, WalkEnded, DirtyState}
+use Rattle.vmsa.specs.declared.Refusal.the-variants.{MemoryPool, PoolAddress, Sizes, Root, Attributes, AccessSize, PageCrossing, StoreAddress, NoRegime, PageRange, MapLength, WalkEnded, DirtyState}
 use Rattle.vmsa.specs.declared.FaultKind.{FaultKind}
 use Rattle.vmsa.specs.declared.FaultKind.the-variants.{AddressSize, Translation, AccessFlag, Permission, ExternalAbort, Alignment}
 use Rattle.vmsa.specs.declared.Fault.{Fault}
@@ -23,7 +23,7 @@ withNumber [] n = NoRegime
 withNumber (x ∷ xs) n = pick (eqb (numberOf x) n) x (withNumber xs n)
 
 refusalIn : ℕ → Refusal
-refusalIn n = withNumber (MemoryPool ∷ PoolAddress ∷ Sizes ∷ Root ∷ Attributes ∷ AccessSize ∷ PageCrossing ∷ StoreAddress ∷ NoRegime ∷ WalkEnded ∷ DirtyState ∷ []) n
+refusalIn n = withNumber (MemoryPool ∷ PoolAddress ∷ Sizes ∷ Root ∷ Attributes ∷ AccessSize ∷ PageCrossing ∷ StoreAddress ∷ NoRegime ∷ PageRange ∷ MapLength ∷ WalkEnded ∷ DirtyState ∷ []) n
 
 refusal-back : (x : Refusal) → refusalIn (numberOf x) ≡ x
 unfolding refusalIn withNumber
@@ -36,6 +36,8 @@ refusal-back AccessSize = refl
 refusal-back PageCrossing = refl
 refusal-back StoreAddress = refl
 refusal-back NoRegime = refl
+refusal-back PageRange = refl
+refusal-back MapLength = refl
 refusal-back WalkEnded = refl
 refusal-back DirtyState = refl
 

@@ -1,5 +1,5 @@
 -- The bits of tables (RULES 6.11): how they add up, bit by bit, and that they are four.
-use Prim.Native.Nat.{ℕ, zero, suc, _+_, _/_, _%_, _^_, _<_}
+use Prim.Native.Nat.{ℕ, _+_, _/_, _%_, _^_, _<_}
 use mathlib.Core.Bool.{Bool, _||_}
 use mathlib.Core.Path.{_≡_, refl, ap, _∙_}
 use native.Mathlib.Nat.{mod-lt}
@@ -8,7 +8,7 @@ use lib.Dec.{eqb, lit<}
 use lib.Pow.{shr-shr}
 use lib.Bits.{bitOr, or-shr, or-mod, or-lt}
 use Rattle.descriptor.specs.Bits.{bit}
-use Rattle.descriptor.proofs.BitLaws.{set-above, clear-above}
+use Rattle.descriptor.proofs.BitLaws.{set-above, clear-above, or-bit}
 use Rattle.vmsa.specs.Fields.{setAf, clearAp2, tableBits, sumCount, withTable, noWriteBelow, noUserBelow, uxnBelow, pxnBelow}
 
 -- ---- the sum
@@ -32,21 +32,6 @@ unfolding tableBits withTable
 or-bits a b = ap (λ (x : ℕ). x % 2 ^ 4) (or-shr a b 59) ∙ or-mod (a / 2 ^ 59) (b / 2 ^ 59) 4
 
 -- ---- the tests
-
--- an or of two numbers, bit by bit
-or-digits : (x y : ℕ) → x < 2 → y < 2 → eqb (bitOr x y) 1 ≡ (eqb x 1 || eqb y 1)
-or-digits zero zero h k = refl
-or-digits zero (suc zero) h k = refl
-or-digits (suc zero) zero h k = refl
-or-digits (suc zero) (suc zero) h k = refl
-or-digits zero (suc (suc y)) h k = absurd (omega arith)
-or-digits (suc zero) (suc (suc y)) h k = absurd (omega arith)
-or-digits (suc (suc x)) y h k = absurd (omega arith)
-
-or-bit : (n a b : ℕ) → bit n (bitOr a b) ≡ (bit n a || bit n b)
-or-bit n a b =
-    ap (λ (x : ℕ). eqb x 1) (ap (λ (x : ℕ). x % 2) (or-shr a b n) ∙ or-mod (a / 2 ^ n) (b / 2 ^ n) 1)
-    ∙ or-digits (a / 2 ^ n % 2) (b / 2 ^ n % 2) (mod-lt (a / 2 ^ n) (lit< tt)) (mod-lt (b / 2 ^ n) (lit< tt))
 
 -- a test of the bits of one table, as bit 59 + n of its descriptor
 module _ (v : ℕ) where

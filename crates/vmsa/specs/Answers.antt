@@ -2,7 +2,7 @@
 use Prim.Native.Nat.{ℕ, _+_}
 use mathlib.Core.Bool.{Bool, false}
 use Rattle.vmsa.specs.declared.Refusal.{Refusal}
-use Rattle.vmsa.specs.declared.Refusal.the-variants.{MemoryPool, PoolAddress, Sizes, Root, Attributes, AccessSize, PageCrossing, StoreAddress, NoRegime, WalkEnded, DirtyState}
+use Rattle.vmsa.specs.declared.Refusal.the-variants.{MemoryPool, PoolAddress, Sizes, Root, Attributes, AccessSize, PageCrossing, StoreAddress, NoRegime, PageRange, MapLength, WalkEnded, DirtyState}
 use Rattle.vmsa.specs.declared.FaultKind.{FaultKind}
 use Rattle.vmsa.specs.declared.FaultKind.the-variants.{AddressSize, Translation, AccessFlag, Permission, ExternalAbort, Alignment}
 use Rattle.vmsa.specs.declared.Success.{Success}
@@ -20,6 +20,8 @@ numberOf AccessSize = 6
 numberOf PageCrossing = 7
 numberOf StoreAddress = 8
 numberOf NoRegime = 9
+numberOf PageRange = 10
+numberOf MapLength = 11
 numberOf WalkEnded = 12
 numberOf DirtyState = 13
 

@@ -43,6 +43,10 @@ setAf v = setBit 10 v
 abbrev pub clearAp2 : ℕ → ℕ
 clearAp2 v = clearBit 7 v
 
+-- a harvest's: AP[2] set again (RULES 17.3)
+abbrev pub setAp2 : ℕ → ℕ
+setAp2 v = setBit 7 v
+
 -- ---- tables (the customer's papers: a table's extra bits)
 
 -- bits 62 to 59 of a table descriptor, as a number of four bits; how many such numbers there are; and that of no table

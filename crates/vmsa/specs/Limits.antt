@@ -24,6 +24,10 @@ tszMost = 39
 abbrev pub outputMost : ℕ
 outputMost = 5
 
+-- the most pages of a harvest (RULES 17.1)
+abbrev pub harvestLimit : ℕ
+harvestLimit = 65536
+
 -- what row 3 leaves of a regime
 pub record Sized (r : Regime) : Type 0 where
   pub least0 : tszLeast ≤ r .range0 .tsz

@@ -21,6 +21,8 @@ pub const TSZ_MOST: u8 = 39;
 
 pub const OUTPUT_MOST: u8 = 5;
 
+pub const HARVEST_LIMIT: u64 = 65536;
+
 // Bits of a leaf descriptor; specs/Fields.antt has the same numbers.
 pub const AP1: u8 = 6;
 
@@ -174,6 +176,8 @@ pub enum Refusal {
     PageCrossing,
     StoreAddress,
     NoRegime,
+    PageRange,
+    MapLength,
     WalkEnded,
     DirtyState,
 }
@@ -500,6 +504,8 @@ impl Refusal {
             Refusal::PageCrossing => 7,
             Refusal::StoreAddress => 8,
             Refusal::NoRegime => 9,
+            Refusal::PageRange => 10,
+            Refusal::MapLength => 11,
             Refusal::WalkEnded => 12,
             Refusal::DirtyState => 13,
         }

@@ -1,10 +1,10 @@
 -- A reply with its count apart, as numbers, is the answer as numbers; a hit is the access call; a refusal as a number says what a set regime does.
 use Prim.Native.Nat.{ℕ}
-use mathlib.Core.Bool.{true, false, not}
+use mathlib.Core.Bool.{Bool, true, false, not}
 use mathlib.Core.List.{List}
 use mathlib.Core.Option.{Option, none, some}
 use mathlib.Core.Path.{_≡_, refl, sym, ap, subst, _∙_}
-use lib.Dec.{eqb, T}
+use lib.Dec.{eqb, eqb→eq, T}
 use lib.ListN.{length}
 use Rattle.descriptor.specs.Bits.{pick}
 use Rattle.descriptor.proofs.Tests.{clash}
@@ -12,7 +12,7 @@ use Rattle.vmsa.specs.Answers.{Result, success, fault, refused, numberOf}
 use Rattle.vmsa.specs.Words.{regimeOf, regimeWords}
 use Rattle.vmsa.specs.declared.Access.{Access}
 use Rattle.vmsa.specs.declared.Refusal.{Refusal}
-use Rattle.vmsa.specs.declared.Refusal.the-variants.{MemoryPool, PoolAddress, Sizes, Root, Attributes, AccessSize, PageCrossing, StoreAddress, NoRegime, WalkEnded, DirtyState}
+use Rattle.vmsa.specs.declared.Refusal.the-variants.{MemoryPool, PoolAddress, Sizes, Root, Attributes, AccessSize, PageCrossing, StoreAddress, NoRegime, PageRange, MapLength, WalkEnded, DirtyState}
 use Rattle.vmsa.specs.declared.Regime.{Regime}
 use Rattle.vmsa.specs.declared.RegimeWords.{RegimeWords}
 use Rattle.checks.specs.declared.Checked.{Checked}
@@ -22,13 +22,14 @@ use Rattle.tlb.specs.Replies.{Reply, Told, replyOf, replyTo}
 use Rattle.tlb.specs.Ours.{ours}
 use Rattle.tlb.specs.Entries.{entryView, regimeIn, Filling, accessedEntry, entryReply}
 use Rattle.session.specs.declared.Session.{Session as SessionStruct}
-use Rattle.session.specs.Model.{handed, setRegime, access, store, storeIn}
-use Rattle.session.specs.View.{setTo, setAfter, numberIn, entryIn, withEntry, leaves}
+use Rattle.harvest.specs.Harvest.{Harvested}
+use Rattle.session.specs.Model.{handed, setRegime, access, store, storeIn, harvestIn}
+use Rattle.session.specs.View.{setTo, setAfter, numberIn, entryIn, withEntry, emptied, emptiedAfter, harvestOf, harvestLeaves, leaves}
 use Rattle.session.proofs.Calls.{set-leaves, hit-leaves, entry-leaves, store-leaves}
 use Rattle.words.specs.declared.AnswerWords.{AnswerWords}
 use Rattle.words.specs.declared.Hit.{Hit}
 use Rattle.words.specs.declared.SetWords.{SetWords}
-use Rattle.words.specs.Words.{wordsOf, refusalByte, replyWords, replied, entryReplied, numbered, setWords, hitOf}
+use Rattle.words.specs.Words.{wordsOf, refusalByte, replyWords, replied, entryReplied, numbered, harvestNumbered, harvestReplied, setWords, hitOf}
 
 pub reply-words : (o : Result) → replyWords (replyOf o) ≡ wordsOf o
 unfolding wordsOf
@@ -48,6 +49,8 @@ not-zero AccessSize = refl
 not-zero PageCrossing = refl
 not-zero StoreAddress = refl
 not-zero NoRegime = refl
+not-zero PageRange = refl
+not-zero MapLength = refl
 not-zero WalkEnded = refl
 not-zero DirtyState = refl
 
@@ -63,6 +66,21 @@ set-numbers m g x e s =
     rw e
     (ap (λ (t : SessionStruct). handed t m (refusalByte (replyTo (regimeCheck (length m) r)))) (set-by s r (regimeCheck (length m) r))
     ∙ ap (replied refusalByte) (set-leaves s m r (regimeCheck (length m) r) refl))
+
+-- the two ways, by the number of the refusal
+pub of-refused : (n : ℕ) (s t : SessionStruct) → T (not (eqb n 0)) → pick (eqb n 0) s t ≡ t
+of-refused n s t = by (eqb n 0)
+  where
+    by : (b : Bool) → T (not b) → pick b s t ≡ t
+    by true z = absurd z
+    by false z = refl
+
+pub of-accepted : (n : ℕ) → T (not (not (eqb n 0))) → n ≡ 0
+of-accepted n z = eqb→eq n 0 (by (eqb n 0) z)
+  where
+    by : (b : Bool) → T (not (not b)) → T b
+    by true z = z
+    by false z = z
 
 -- ---- a hit
 
@@ -107,3 +125,16 @@ pub store-numbers : (s : SessionStruct) (m : List ℕ) (address value : ℕ) (t 
 store-numbers s m address value t e =
     ap (λ (x : Told ℕ). handed s (x .memory) (x .reply)) e
     ∙ ap (replied refusalByte) (store-leaves s m address value (storeIn ours (regimeIn (s .regime) (s .set)) m address value) refl)
+
+-- ---- a harvest
+
+emptied-by : (s : SessionStruct) (x : Checked) → pick (eqb (refusalByte (replyTo x)) 0) (emptied s) s ≡ emptiedAfter s x
+emptied-by s Accepted = refl
+emptied-by s (Refused x) = rw (not-zero x)
+
+-- whatever session has the regime: refused, it stays as it was; with 0 every entry is emptied
+pub harvest-numbers : (s : SessionStruct) (first count : ℕ) (m map : List ℕ) (h : Harvested ℕ) → h ≡ harvestNumbered (harvestIn ours (regimeIn (s .regime) (s .set)) first count m map)
+    → (pick (eqb (h .reply) 0) (emptied s) s, h) ≡ harvestReplied (harvestLeaves s first count m map)
+harvest-numbers s first count m map h e =
+    ap (λ (x : Harvested ℕ). (pick (eqb (x .reply) 0) (emptied s) s, x)) e
+    ∙ ap (λ (t : SessionStruct). (t, harvestNumbered (harvestOf s first count m map))) (emptied-by s (harvestOf s first count m map .reply))

@@ -13,7 +13,9 @@ use Rattle.vmsa.specs.declared.AccessKind.the-variants.{Read, Write, Update, Fe
 use Rattle.vmsa.specs.declared.Regime.{Regime}
 use Rattle.checks.specs.Order.{regimeCheck}
 use Rattle.walk.specs.Walk.{walk}
-use Rattle.tlb.specs.Replies.{Reply, done, refused as refusedWith, answered, Told, told, replyTo}
+use Rattle.checks.specs.declared.Checked.{Checked}
+use Rattle.harvest.specs.Harvest.{Harvested}
+use Rattle.tlb.specs.Replies.{Reply, done, refused as refusedWith, answered, harvested, Told, told, replyTo}
 use Rattle.tlb.specs.Entries.{Filling, filling}
 use Rattle.session.specs.declared.Session.{Session as SessionStruct}
 use Rattle.session.specs.Model.{Handed, handed}
@@ -110,12 +112,14 @@ abbrev pub refusalByte : Reply → ℕ
 refusalByte done = 0
 refusalByte (refusedWith n) = n
 refusalByte (answered o n) = 0
+refusalByte (harvested map) = 0
 
 -- a session's reply to an access as numbers
 abbrev pub replyWords : Reply → AnswerWords
 replyWords done = wordsOf (refused 0)
 replyWords (refusedWith n) = wordsOf (refused n)
 replyWords (answered o n) = countedWords n (wordsOf o)
+replyWords (harvested map) = wordsOf (refused 0)
 
 -- what a call leaves, with its reply as numbers
 abbrev pub replied : {A : Type 0} → (Reply → A) → Handed SessionStruct Reply → Handed SessionStruct A
@@ -128,6 +132,14 @@ entryReplied x = filling (x .entry) (x .memory) (replyWords (x .reply))
 -- a store's number, and the memory afterwards
 abbrev pub numbered : Told Reply → Told ℕ
 numbered t = told (refusalByte (t .reply)) (t .memory)
+
+-- the same of a harvest, and the map
+abbrev pub harvestNumbered : Harvested Checked → Harvested ℕ
+harvestNumbered h = record { reply = refusalByte (replyTo (h .reply)); memory = h .memory; map = h .map }
+
+-- and of a harvest in a session
+abbrev pub harvestReplied : SessionStruct × Harvested Checked → SessionStruct × Harvested ℕ
+harvestReplied x = (x .0, harvestNumbered (x .1))
 
 -- a regime to be set over n bytes of memory: the number of the refusal or 0, and the regime as a session holds it
 abbrev pub setWords : ℕ → Regime → SetWords

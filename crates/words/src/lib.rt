@@ -8,8 +8,9 @@ ghost use Rattle.tlb.specs.Replies.{told, replyTo};
 ghost use Rattle.tlb.specs.Walker.{entryCount, walked as walkedOf};
 ghost use Rattle.tlb.specs.Ours.{ours};
 ghost use Rattle.tlb.specs.Entries.{entryView, regimeIn, entryFor, filling, filledBy, entryAnswer, entryReply};
-ghost use Rattle.session.specs.Model.{storeIn};
-ghost use Rattle.words.specs.Words.{accessKind, accessOf, wordsOf, walkWords, refusalByte, entryReplied, numbered, setWords, hitOf};
+ghost use Rattle.harvest.specs.Harvest.{harvested, harvest as harvestOf};
+ghost use Rattle.session.specs.Model.{storeIn, harvestIn};
+ghost use Rattle.words.specs.Words.{accessKind, accessOf, wordsOf, walkWords, refusalByte, entryReplied, numbered, harvestNumbered, setWords, hitOf};
 use checks::Checked;
 use decision::HitKind;
 use tlb::Entry;
@@ -305,4 +306,31 @@ pub fn store_words(regime: RegimeWords, set: u8, memory: &mut [u8], address: u64
     ensures { λ n. ⌜ told n (now (memory .exit)) ≡ numbered (storeIn ours (regimeIn regime set) (now (memory .entry)) address value) ⌝ }
 {
     refusal_byte(session::store_in(regime, set, memory, PhysAddr(address), value))
+}
+
+// A harvest of count pages from page first on: 0, or the number of the refusal.
+pub fn harvest_words(
+    memory: &mut [u8],
+    regime: RegimeWords,
+    first: u64,
+    count: u64,
+    map: &mut [u8],
+) -> u8
+    ensures { λ n. ⌜ harvested n (now (memory .exit)) (now (map .exit)) ≡ harvestNumbered (harvestOf (regimeOf regime) first count (now (memory .entry)) (now (map .entry))) ⌝ }
+{
+    refusal_byte(harvest::harvest(memory, regime.regime(), first, count, map))
+}
+
+// The same in every session that has this regime.
+pub fn session_harvest_words(
+    regime: RegimeWords,
+    set: u8,
+    memory: &mut [u8],
+    first: u64,
+    count: u64,
+    map: &mut [u8],
+) -> u8
+    ensures { λ n. ⌜ harvested n (now (memory .exit)) (now (map .exit)) ≡ harvestNumbered (harvestIn ours (regimeIn regime set) first count (now (memory .entry)) (now (map .entry))) ⌝ }
+{
+    refusal_byte(session::harvest_in(regime, set, memory, first, count, map))
 }

@@ -87,7 +87,7 @@ use Rattle.borrows.proofs.Element.{element}
 use Rattle.borrows.proofs.Shared.{read-out}
 use Rattle.borrows.proofs.Mutable as mutable
 use Rattle.capi_session.specs.Says.{AccessSays}
-use Rattle.capi_session.proofs.Lent.{IsSession, Borrow, opened, closed, eval, rval, regime-is, set-is, regime-typed, set-typed, regime-lies, entries-lie, set-lies, entry-of, puts-entry, entry-is, put-is}
+use Rattle.words.proofs.Lent.{IsSession, Borrow, opened, closed, eval, rval, regime-is, set-is, regime-typed, set-typed, regime-lies, entries-lie, set-lies, entry-of, puts-entry, entry-is, put-is}
 use Rattle.capi_session.proofs.vmsa_session_access.Key.{name as #this}
 use Rattle.capi_session.proofs.vmsa_session_access as this
 use Rattle.capi_session.proofs.vmsa_session_access.Statement as stated

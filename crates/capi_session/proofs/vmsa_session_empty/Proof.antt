@@ -40,7 +40,7 @@ use Rattle.borrows.proofs.Numbered.{param, local, gets, takes, fetch, leaves}
 use Rattle.borrows.proofs.Calls.{asks, gave}
 use Rattle.borrows.proofs.Mutable.{written}
 use Rattle.capi_session.specs.Says.{EmptySays}
-use Rattle.capi_session.proofs.Lent.{sval, typed}
+use Rattle.words.proofs.Lent.{sval, typed}
 use Rattle.capi_session.proofs.vmsa_session_empty.Key.{name as #this}
 use Rattle.capi_session.proofs.vmsa_session_empty as this
 use Rattle.capi_session.proofs.vmsa_session_empty.Statement as stated

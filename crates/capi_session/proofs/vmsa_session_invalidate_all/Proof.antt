@@ -33,14 +33,13 @@ use Rattle.session.specs.declared.Session.{Session}
 use Rattle.tlb.proofs.Entry as E
 use Rattle.tlb.proofs.Entry.Laws as E′
 use Rattle.session.proofs.Session as S
-use Rattle.session.proofs.Session.Laws as S′
 use Rattle.tlb.proofs.Entry.empty.Symbol as empty-def
 use Rattle.tlb.proofs.Entry.empty.Symbol.{name as #empty}
 use Rattle.tlb.proofs.Entry.empty.Met as empty-thm
 use Rattle.borrows.proofs.Walks.{apart1, together1, proved}
 use Rattle.borrows.proofs.Locals.{allocated}
 use Rattle.borrows.proofs.Numbered.{param, local, gets, takes, sets-behind, fetch, leaves}
-use Rattle.capi_session.proofs.Lent.{sval, IsSession, typed, IsEntry, entries-lie, opened, closed, same-is, EmptyC, calls-empty}
+use Rattle.words.proofs.Lent.{typed, entries-lie, opened, closed, emptied-is, EmptyC, calls-empty}
 use Rattle.capi_session.proofs.vmsa_session_invalidate_all.Key.{name as #this}
 use Rattle.capi_session.proofs.vmsa_session_invalidate_all as this
 use Rattle.capi_session.proofs.vmsa_session_invalidate_all.Statement as stated
@@ -49,9 +48,6 @@ use Rattle.capi_session.proofs.vmsa_session_invalidate_all.Code as code
 -- what is had at exit: the borrow of the session
 abbrev stayed : Stays (this.ended .signature .params) (this.ended .kept)
 stayed = (stay-ref (0 ∷ []) tt (plain (λ _. S.the-row)), tt)
-
-emptied-is : (s : Session) → IsSession s → IsEntry noEntry → IsSession (emptied s)
-emptied-is s is ie = same-is s noEntry (LL.owed S.the-type S′.the-laws s (sval s ∷ []) is .0) ie (LL.owed S.the-type S′.the-laws s (sval s ∷ []) is .1 .1)
 
 module _ {M : Type 1} (𝓤 : URA M) (H : Heap 𝓤) (A : Atoms 𝓤) (W : Given 𝓤 H A) (at-mem : Memory → SProp 𝓤) (run : Routine → Fun 𝓤) (κ : Lft) (q : Share) (session : RefT Session) where
   abbrev after : Session

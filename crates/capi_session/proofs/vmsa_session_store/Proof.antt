@@ -52,7 +52,7 @@ use Rattle.borrows.proofs.Walks.{apart2, proved}
 use Rattle.borrows.proofs.Locals.{allocated}
 use Rattle.borrows.proofs.Numbered.{param, local, part, points, behind, gets, takes, fetch, leaves}
 use Rattle.borrows.proofs.Calls.{a-struct, a-number, lends, gave-memory}
-use Rattle.capi_session.proofs.Lent.{rval, regime-is, set-is, regime-typed, set-typed, regime-lies, set-lies, opened, closed}
+use Rattle.words.proofs.Lent.{rval, regime-is, set-is, regime-typed, set-typed, regime-lies, set-lies, opened, closed}
 use Rattle.capi_session.proofs.vmsa_session_store.Key.{name as #this}
 use Rattle.capi_session.proofs.vmsa_session_store as this
 use Rattle.capi_session.proofs.vmsa_session_store.Statement as stated

@@ -6,6 +6,7 @@
 --     regime-lies ..            which byte of a session each field starts at
 --     regime-is, set-is         what is known of its regime, and of whether that is set; regime-typed, set-typed: their machine values have their types
 --     IsEntry, entry-is, put-is, same-is     what is known of an entry; of one of a session's; of a session with another in its place; of one whose entries are all the same
+--     emptied-is                what is known of a session with every entry emptied
 --     entry-of, puts-entry      `session.entries[i]` as an operand, and given another entry. Local a holds its address, and the cell is entry p
 --     calls-empty               `Entry::empty` is called, and the empty entry lands; `EmptyC` is its contract
 -- Assumes `Given`.
@@ -50,7 +51,7 @@ use Rattle.tlb.specs.declared.Entry.{Entry}
 use Rattle.session.specs.declared.Session.{Session}
 use Rattle.tlb.specs.Walker.{entryCount}
 use Rattle.tlb.specs.Entries.{noEntry}
-use Rattle.session.specs.View.{withEntries, withEntry}
+use Rattle.session.specs.View.{withEntries, withEntry, emptied}
 use Rattle.vmsa.proofs.RegimeWords as R
 use Rattle.vmsa.proofs.RegimeWords.Laws as R′
 use Rattle.tlb.proofs.Entry as E
@@ -244,6 +245,9 @@ AreNumbers s = Is u8 (s .set) (vint w8 (s .set) ∷ []) × (Is u8 (s .spare8) (v
 
 pub same-is : (s : Session) (e : Entry) → Is R.the-row (s .regime) (rval (s .regime) ∷ []) → IsEntry e → AreNumbers s → IsSession (withEntries s (replicate entryCount e))
 same-is s e ir ie ns = LL.owes S.the-type S′.the-laws (withEntries s (replicate entryCount e)) (ir, ((evals (replicate entryCount e), ((refl, refl), all-same entryCount e ie)), ns))
+
+pub emptied-is : (s : Session) → IsSession s → IsEntry noEntry → IsSession (emptied s)
+emptied-is s is ie = same-is s noEntry (regime-is s is) ie (LL.owed S.the-type S′.the-laws s (sval s ∷ []) is .1 .1)
 
 module _ {M : Type 1} (𝓤 : URA M) (H : Heap 𝓤) (A : Atoms 𝓤) (at-mem : Memory → SProp 𝓤) (run : Routine → Fun 𝓤) where
   abbrev pub EmptyC : Contract 𝓤

@@ -1,0 +1,3 @@
+pub mod Byte
+pub mod Laws
+pub mod Stores

@@ -1,0 +1,4 @@
+pub mod Place
+pub mod Link
+pub mod Pool
+pub mod Laws

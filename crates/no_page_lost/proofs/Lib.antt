@@ -1,0 +1,6 @@
+pub mod Marks
+pub mod Held
+pub mod Harvests
+pub mod Plain
+pub mod Watch
+pub mod Tied

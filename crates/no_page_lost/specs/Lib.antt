@@ -1,0 +1,3 @@
+pub mod Lost
+pub mod Plain
+pub mod Code

@@ -1,0 +1,10 @@
+pub mod Taken
+pub mod Asked
+pub mod Rule1
+pub mod Whole
+pub mod Pool
+pub mod Reached
+pub mod Promises
+pub mod Spans
+pub mod Walks
+pub mod Tied

@@ -1,0 +1,4 @@
+pub mod Leaves
+pub mod Walks
+pub mod Harvest
+pub mod Code
