@@ -47,7 +47,13 @@ pub fn walk(memory: &mut [u8], regime: &Regime, access: &Access) -> Answer {
     ffi::walk(memory, regime, access)
 }
 
+#[inline(always)]
+pub fn harvest(memory: &mut [u8], regime: &Regime, first: u64, count: u64, map: &mut [u8]) -> u8 {
+    ffi::harvest(memory, regime, first, count, map)
+}
+
 /// The library's session; its fields are the library's own.
+#[derive(Clone, Copy, Debug, PartialEq)]
 pub struct Session(ffi::Session);
 
 impl Session {
@@ -73,6 +79,11 @@ impl Session {
     #[inline(always)]
     pub fn invalidate_all(&mut self) {
         ffi::session_invalidate_all(&mut self.0);
+    }
+
+    #[inline(always)]
+    pub fn harvest(&mut self, memory: &mut [u8], first: u64, count: u64, map: &mut [u8]) -> u8 {
+        ffi::session_harvest(&mut self.0, memory, first, count, map)
     }
 }
 

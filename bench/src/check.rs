@@ -3,6 +3,9 @@
 //! on every leaf under all that tables can take away: each whole answer and
 //! each byte of memory is to be the same. What is walked is walked a descriptor
 //! at a time too: each address that is named and each end is to be the same.
+//! `harvest` does it for the harvest of dirty pages.
+
+mod harvest;
 
 use crate::boundary::{self, Access, Regime};
 use crate::boundary::{FAULT, FETCH, KIB16, KIB4, KIB64, PROBE_READ, PROBE_WRITE, READ, REFUSED};
@@ -207,6 +210,7 @@ pub fn same_answers() -> u32 {
         + same_walks(&mut random)
         + same_granules(&mut random)
         + same_offers(&mut random)
+        + harvest::same_harvests(&mut random)
 }
 
 /// Spoils a call, whatever else was changed.

@@ -1,10 +1,14 @@
 //! What is measured: one call again and again, on either side.
 
+mod harvest;
+
 use std::array;
 use std::hint::black_box;
 
+use harvest::{harvests, Harvest};
+
 use crate::boundary::{self, Access, Answer, Regime, KIB16, KIB4, KIB64, READ, WRITE};
-use crate::plain;
+use crate::plain::{self, PAGES_LIMIT};
 use crate::steps::Steps;
 
 /// The addresses of every kernel repeat after so many calls.
@@ -14,6 +18,9 @@ const PERIOD: usize = 512;
 /// pool have `plain::POOL_LIMIT`.)
 pub const MEMORY: usize = 0x1_0000;
 pub const POOL_ADDRESS: u64 = 0x4000_0000;
+
+/// The bytes of the map of a harvest.
+const MAP: usize = PAGES_LIMIT as usize / 8;
 
 /// The tables of the last level in the longest pool: all but the first three.
 pub const LEAF_TABLES: u64 = (plain::POOL_LIMIT as u64 >> 12) - 3;
@@ -37,6 +44,7 @@ pub enum Kernel {
     InvalidateAll,
     Step4,
     Step4Offer,
+    Harvest(Harvest),
 }
 
 #[derive(Clone, Copy)]
@@ -48,7 +56,8 @@ pub enum Side {
 }
 
 impl Kernel {
-    pub const ALL: [Kernel; 17] = [
+    /// All but those of the harvest.
+    const SHORT: [Kernel; 17] = [
         Kernel::Load,
         Kernel::Store,
         Kernel::Walk4,
@@ -67,6 +76,11 @@ impl Kernel {
         Kernel::Step4,
         Kernel::Step4Offer,
     ];
+
+    pub fn all() -> Vec<Kernel> {
+        let harvests = Harvest::ALL.map(Kernel::Harvest);
+        [&Kernel::SHORT[..], &harvests[..]].concat()
+    }
 
     pub fn name(self) -> &'static str {
         match self {
@@ -87,11 +101,28 @@ impl Kernel {
             Kernel::InvalidateAll => "invalidate-all",
             Kernel::Step4 => "step4",
             Kernel::Step4Offer => "step4-offer",
+            Kernel::Harvest(harvest) => harvest.name(),
         }
     }
 
     pub fn named(name: &str) -> Option<Kernel> {
-        Kernel::ALL.into_iter().find(|kernel| kernel.name() == name)
+        Kernel::all()
+            .into_iter()
+            .find(|kernel| kernel.name() == name)
+    }
+
+    /// One of its calls counts as so many.
+    pub fn weight(self) -> u64 {
+        match self {
+            Kernel::Harvest(harvest) => harvest.weight(),
+            _ => 1,
+        }
+    }
+
+    /// Whether the loop around its calls has work of its own to do, so that its
+    /// time is to be taken off.
+    pub fn prepares(self) -> bool {
+        matches!(self, Kernel::Harvest(_))
     }
 
     /// The address of call `i`, and again of call `i + PERIOD`.
@@ -123,6 +154,7 @@ impl Kernel {
             Kernel::Walk4Long | Kernel::HitLong => long_memory(),
             Kernel::Walk4Kib16 | Kernel::Walk3Kib64 => tables(self.granule()),
             Kernel::Step4 => clean(memory()),
+            Kernel::Harvest(harvest) => harvest.memory(),
             _ => in_order(memory(), self.ee()),
         }
     }
@@ -217,9 +249,17 @@ fn clean(mut memory: Vec<u8>) -> Vec<u8> {
     memory
 }
 
+/// A leaf that is accessed and dirty, of page 0.
+const LEAF: u64 = 0x0008_0000_8000_0743;
+
 /// The longest pool, full of tables: every page from 0 on, as far as its
 /// tables reach, with its leaf accessed and dirty.
 pub fn long_memory() -> Vec<u8> {
+    long_tables(|_| LEAF)
+}
+
+/// These tables, each page with the leaf given for it as if it were page 0.
+fn long_tables(leaf: impl Fn(u64) -> u64) -> Vec<u8> {
     let mut memory = vec![0; plain::POOL_LIMIT];
     let mut put = |offset, value| put(&mut memory, offset, value);
     put(0x0000, 0x4000_1003);
@@ -228,10 +268,7 @@ pub fn long_memory() -> Vec<u8> {
         put(0x2000 + 8 * table as usize, 0x4000_3003 + (table << 12));
     }
     for page in 0..LEAF_TABLES * 512 {
-        put(
-            0x3000 + 8 * page as usize,
-            0x0008_0000_8000_0743 + (page << 12),
-        );
+        put(0x3000 + 8 * page as usize, leaf(page) + (page << 12));
     }
     memory
 }
@@ -271,11 +308,14 @@ pub fn put(memory: &mut [u8], offset: usize, value: u64) {
     memory[offset..offset + 8].copy_from_slice(&value.to_le_bytes());
 }
 
-/// A memory and a session for each side.
+/// A memory, a session and the map of a harvest for each side.
 pub struct Bed {
     regime: Regime,
     addresses: [u64; PERIOD],
+    /// The memory as it was at first.
+    original: Vec<u8>,
     memory: [Vec<u8>; 2],
+    maps: [Vec<u8>; 2],
     ours: boundary::Session,
     plain: plain::Session,
 }
@@ -291,7 +331,9 @@ impl Bed {
                 ..regime(memory.len())
             },
             addresses: array::from_fn(|i| kernel.address(i as u64)),
-            memory: [memory.clone(), memory],
+            memory: [memory.clone(), memory.clone()],
+            original: memory,
+            maps: [MAP, MAP].map(|length| vec![0; length]),
             ours: boundary::Session::empty(),
             plain: plain::Session::empty(),
         };
@@ -307,18 +349,22 @@ impl Bed {
         bed
     }
 
-    pub fn same_memory(&self) -> bool {
-        self.memory[0] == self.memory[1]
+    pub fn same_bytes(&self) -> bool {
+        self.memory[0] == self.memory[1] && self.maps[0] == self.maps[1]
     }
 
     /// Runs `calls` calls and gives a checksum of the answers.
     pub fn run(&mut self, kernel: Kernel, side: Side, calls: u64) -> u64 {
+        if let Kernel::Harvest(harvest) = kernel {
+            return self.harvest(harvest, side, calls);
+        }
         let Bed {
             regime,
             addresses,
             memory: [memory, plain_memory],
             ours,
             plain,
+            ..
         } = self;
         let (regime, addresses) = (&*regime, &*addresses);
         let kind = kernel.kind();
@@ -403,6 +449,29 @@ impl Bed {
             }),
             (_, Side::Plain) => answers(calls, kind, addresses, move |access| {
                 plain::walk(plain_memory, black_box(regime), access)
+            }),
+        }
+    }
+
+    /// The same for a kernel of the harvest.
+    fn harvest(&mut self, kernel: Harvest, side: Side, calls: u64) -> u64 {
+        let Bed {
+            regime,
+            original,
+            memory: [memory, plain_memory],
+            maps: [map, plain_map],
+            ..
+        } = self;
+        let (first, changes) = (kernel.first(), kernel.changes());
+        match side {
+            Side::Ours => harvests(calls, original, changes, memory, |memory| {
+                boundary::harvest(memory, black_box(regime), first, PAGES_LIMIT, map)
+            }),
+            Side::Plain => harvests(calls, original, changes, plain_memory, |memory| {
+                plain::harvest(memory, black_box(regime), first, PAGES_LIMIT, plain_map)
+            }),
+            Side::Loop => harvests(calls, original, changes, memory, |memory| {
+                u8::from(black_box(memory).is_empty())
             }),
         }
     }

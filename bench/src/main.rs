@@ -27,10 +27,10 @@ fn main() -> ExitCode {
     let arguments: Vec<String> = env::args().skip(1).collect();
     let arguments: Vec<&str> = arguments.iter().map(String::as_str).collect();
     match arguments[..] {
-        [] => measure(&Kernel::ALL, CALLS),
+        [] => measure(&Kernel::all(), CALLS),
         ["check"] => check(),
         ["kernels"] => {
-            for kernel in Kernel::ALL {
+            for kernel in Kernel::all() {
                 println!("{}", kernel.name());
             }
         }
@@ -47,7 +47,7 @@ fn main() -> ExitCode {
             black_box(Bed::new(kernel).run(kernel, side, calls));
         }
         [calls] => match calls.parse() {
-            Ok(calls) if calls >= ROUNDS => measure(&Kernel::ALL, calls),
+            Ok(calls) if calls >= ROUNDS => measure(&Kernel::all(), calls),
             _ => return usage(),
         },
         _ => return usage(),
@@ -73,30 +73,47 @@ fn measure(kernels: &[Kernel], calls: u64) {
     check();
     let calls = calls / ROUNDS;
     println!(
-        "{ROUNDS} rounds of {calls} calls for each side in turn; median; \
+        "{ROUNDS} rounds of {calls} calls for each side in turn (of a harvest, fewer); median; \
          call against call (no plain function is inlined)"
     );
     for &kernel in kernels {
-        let mut bed = Bed::new(kernel);
-        let mut times = [Vec::new(), Vec::new()];
-        for round in 0..ROUNDS {
-            let mut sums = [0; 2];
-            let first = round as usize % 2;
-            for side in [first, 1 - first] {
-                let start = Instant::now();
-                sums[side] = bed.run(kernel, [Side::Ours, Side::Plain][side], calls);
-                times[side].push(start.elapsed().as_secs_f64() / calls as f64 * 1e9);
-            }
-            assert_eq!(sums[0], sums[1], "{}: other answers", kernel.name());
-        }
-        assert!(bed.same_memory(), "{}: other bytes", kernel.name());
-        let [ours, plain] = times.map(median);
+        let [ours, plain] = times(kernel, (calls / kernel.weight()).max(1)).map(median);
         println!(
-            "{:<15} ours {ours:8.2} ns  plain {plain:8.2} ns  ratio {:6.2}",
+            "{:<21} ours {ours:10.2} ns  plain {plain:10.2} ns  ratio {:6.2}",
             kernel.name(),
             ours / plain,
         );
     }
+}
+
+/// The time of one call in each round, on our side and on the plain one.
+fn times(kernel: Kernel, calls: u64) -> [Vec<f64>; 2] {
+    let mut bed = Bed::new(kernel);
+    let mut times = [Vec::new(), Vec::new()];
+    for round in 0..ROUNDS {
+        let mut sums = [0; 2];
+        let first = round as usize % 2;
+        let around = if kernel.prepares() {
+            run(&mut bed, kernel, Side::Loop, calls).1
+        } else {
+            0.0
+        };
+        for side in [first, 1 - first] {
+            let (sum, time) = run(&mut bed, kernel, [Side::Ours, Side::Plain][side], calls);
+            sums[side] = sum;
+            times[side].push(time - around);
+        }
+        assert_eq!(sums[0], sums[1], "{}: other answers", kernel.name());
+    }
+    assert!(bed.same_bytes(), "{}: other bytes", kernel.name());
+    times
+}
+
+/// The checksum of so many calls, and the time of one.
+fn run(bed: &mut Bed, kernel: Kernel, side: Side, calls: u64) -> (u64, f64) {
+    let start = Instant::now();
+    let sum = bed.run(kernel, side, calls);
+    (sum, start.elapsed().as_secs_f64() / calls as f64 * 1e9)
 }
 
 fn median(mut times: Vec<f64>) -> f64 {

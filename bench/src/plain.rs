@@ -1,8 +1,11 @@
 //! The same rules in plain Rust, with no thought of a proof: a loop over the
-//! levels, a session changed where it lies, and a walk a descriptor at a time.
+//! levels, a session changed where it lies, a walk a descriptor at a time, and
+//! a recursion over the tables for the harvest.
 
+mod harvest;
 mod stepwise;
 
+pub use harvest::{harvest, PAGES_LIMIT};
 pub use stepwise::Stepwise;
 
 use crate::boundary::{Access, Answer, Regime};
@@ -436,5 +439,17 @@ impl Session {
     #[inline(never)]
     pub fn invalidate_all(&mut self) {
         self.entries = [None; 64];
+    }
+
+    #[inline(never)]
+    pub fn harvest(&mut self, memory: &mut [u8], first: u64, count: u64, map: &mut [u8]) -> u8 {
+        let Some(regime) = &self.regime else {
+            return 9;
+        };
+        let refusal = harvest(memory, regime, first, count, map);
+        if refusal == 0 {
+            self.entries = [None; 64];
+        }
+        refusal
     }
 }

@@ -1,8 +1,8 @@
 /*
- * Builds four tables for a guest, walks them, uses a session, and then walks
- * tables that the guest may write meanwhile, a descriptor at a time. The run
- * script next to this file builds it and compares what it prints with
- * example.out.
+ * Builds four tables for a guest, walks them, uses a session, walks tables that
+ * the guest may write meanwhile, a descriptor at a time, and harvests what is
+ * marked dirty. The run script next to this file builds it and compares what it
+ * prints with example.out.
  */
 #include <inttypes.h>
 #include <stdio.h>
@@ -211,6 +211,50 @@ static void live_walks(const struct vmsa_regime *regime)
     printf("leaf 0x%016" PRIx64 "\n", *live_at(LEAF));
 }
 
+/* Which of the pages from 0x400 on are dirty; they are then clean again. */
+static void harvest(const char *what, struct vmsa_session *session,
+                    uint64_t count)
+{
+    const uint64_t first = 0x400;
+    uint8_t map[2]; /* a bit for each of 16 pages */
+    uint8_t refusal = vmsa_session_harvest(session, memory, sizeof memory,
+                                           first, count, map, sizeof map);
+    uint64_t n;
+
+    if (refusal != VMSA_ACCEPTED) {
+        print_reply(what, refusal);
+        return;
+    }
+    printf("%-26s dirty:", what);
+    for (n = 0; n < count; n++)
+        if (map[n / 8] >> (n % 8) & 1)
+            printf(" 0x%" PRIx64, first + n);
+    putchar('\n');
+}
+
+/*
+ * Rounds of a migration: the pages that a harvest reports are copied after it.
+ * Its entries being emptied, the session marks the next write again.
+ */
+static void harvests(const struct vmsa_regime *regime)
+{
+    struct vmsa_session session;
+
+    puts("harvest");
+    build_tables();
+    vmsa_session_empty(&session);
+    print_reply("set regime",
+                vmsa_session_set_regime(&session, memory, sizeof memory,
+                                        regime));
+    write_page("write", &session);
+    harvest("harvest", &session, 16);
+    harvest("harvest again", &session, 16);
+    write_page("write", &session);
+    harvest("harvest", &session, 16);
+    harvest("harvest, short map", &session, 17);
+    printf("leaf 0x%016" PRIx64 "\n", get(LEAF));
+}
+
 int main(void)
 {
     const struct vmsa_regime regime = build_regime();
@@ -223,5 +267,6 @@ int main(void)
     plain_walks(&regime);
     a_session(&regime);
     live_walks(&regime);
+    harvests(&regime);
     return 0;
 }

@@ -1,11 +1,12 @@
 /*
  * Random calls, the same on every machine: prints how they ended, and one
- * number over every answer, session and memory. What the library does on one
- * machine it has to do on another; the run script compares.
+ * number over every answer, session, memory and map. What the library does on
+ * one machine it has to do on another; the run script compares.
  *
  * Each plain walk is made a descriptor at a time too, and such walks are made
- * from any bytes. Where they are not as the plain walk is, or do not end, this
- * says so and fails.
+ * from any bytes. Each harvest is held against such walks of all its pages.
+ * Where they are not as the plain walk is, or do not end, or a harvest is not
+ * as they say, this says so and fails.
  */
 #include <inttypes.h>
 #include <stdio.h>
@@ -45,7 +46,8 @@ static unsigned granule;          /* its number, as a rule */
 static unsigned bits;             /* of a page of that granule, */
 static unsigned unit;             /* and its bytes */
 static uint8_t memory[VMSA_MEMORY_LIMIT];
-static uint8_t updated[VMSA_MEMORY_LIMIT]; /* what a walk is to leave of it */
+static uint8_t before[VMSA_MEMORY_LIMIT];  /* as a harvest found it */
+static uint8_t updated[VMSA_MEMORY_LIMIT]; /* what a call is to leave of it */
 static uint64_t pool;             /* its physical address, as a rule */
 static int big;                   /* the byte order of its tables, as a rule */
 static struct vmsa_regime regime; /* the last one that was accepted */
@@ -79,7 +81,8 @@ static int one_in(unsigned n)
 /* How the calls ended, and the number over all that they left. */
 
 static unsigned successes[GRANULES], faults, refusals[UINT8_MAX + 1], accepted,
-    held, under, accessed, accessed_big, dirtied, stepped, updates, differences;
+    held, under, accessed, accessed_big, dirtied, stepped, updates, harvests,
+    reported, cleaned, differences;
 static uint64_t digest = UINT64_C(0xCBF29CE484222325);
 
 static void add(const void *from, size_t size)
@@ -133,7 +136,7 @@ static void check(const char *what, int ok)
     if (ok)
         return;
     if (differences++ < 10)
-        fprintf(stderr, "a descriptor at a time: %s\n", what);
+        fprintf(stderr, "%s\n", what);
 }
 
 /* A world: tables with entries at a few indexes, and a regime. */
@@ -392,17 +395,18 @@ static void put(uint8_t *bytes, int reversed, uint64_t value)
         bytes[reversed ? 7 - byte : byte] = (uint8_t)(value >> (8 * byte));
 }
 
-/* What the pool has at the address that a walk names. */
-static void offer(struct vmsa_stepwise *steps, const struct vmsa_regime *r)
+/* What the pool of a memory has at the address that a walk names. */
+static void offer(uint8_t *from, struct vmsa_stepwise *steps,
+                  const struct vmsa_regime *r)
 {
-    const uint8_t *bytes = bytes_at(memory, r, steps->address);
+    const uint8_t *bytes = bytes_at(from, r, steps->address);
     uint8_t reply;
 
     if (bytes != NULL)
         reply = vmsa_stepwise_value(steps, value_of(bytes, r->ee));
     else
         reply = vmsa_stepwise_unreachable(steps);
-    check("an offer is refused", reply == VMSA_ACCEPTED);
+    check("steps: an offer is refused", reply == VMSA_ACCEPTED);
 }
 
 /* Gives how often a descriptor was offered. */
@@ -415,7 +419,7 @@ static int walk_steps(const struct vmsa_regime *r,
     memset(steps, 0xAA, sizeof *steps);
     vmsa_stepwise_start(r, access, steps);
     for (offers = 0; offers < OFFERS && !steps->ended; offers++)
-        offer(steps, r);
+        offer(memory, steps, r);
     add(steps, sizeof *steps);
     return offers;
 }
@@ -430,10 +434,10 @@ static void update_copy(const struct vmsa_regime *r,
     if (!steps->update)
         return;
     bytes = bytes_at(updated, r, steps->address);
-    check("an update is not in the pool", bytes != NULL);
+    check("steps: an update is not in the pool", bytes != NULL);
     if (bytes == NULL)
         return;
-    check("another value is expected",
+    check("steps: another value is expected",
           value_of(bytes, r->ee) == steps->expected);
     put(bytes, r->ee, steps->value);
 }
@@ -446,11 +450,11 @@ static void compare(const struct vmsa_answer *answer,
         return;
     stepped++;
     updates += steps->update;
-    check("it has not ended", steps->ended == 1);
-    check("another answer",
+    check("steps: it has not ended", steps->ended == 1);
+    check("steps: another answer",
           memcmp(&steps->answer, answer, sizeof *answer) == 0);
-    check("another count of reads", offers == answer->reads);
-    check("other bytes", memcmp(updated, memory, memory_bytes()) == 0);
+    check("steps: another count of reads", offers == answer->reads);
+    check("steps: other bytes", memcmp(updated, memory, memory_bytes()) == 0);
 }
 
 /* A walk that no call leaves, and any descriptors: it ends all the same. */
@@ -474,7 +478,7 @@ static void walk_any(void)
             vmsa_stepwise_value(&steps, descriptor());
         add(&steps, sizeof steps);
     }
-    check("any bytes: it has not ended", steps.ended == 1);
+    check("steps, any bytes: it has not ended", steps.ended == 1);
 }
 
 static void walk(void)
@@ -491,6 +495,151 @@ static void walk(void)
     vmsa_walk(memory, length, &r, &access, &answer);
     add_answer(&answer, &r);
     compare(&answer, &steps, offers);
+}
+
+/* Harvests */
+
+#define AP2 UINT64_C(0x80)
+#define AF UINT64_C(0x400)
+#define DBM (UINT64_C(1) << 51)
+
+static uint8_t map[VMSA_HARVEST_LIMIT / 8 + 8];
+static uint8_t expected[sizeof map]; /* what a harvest is to leave of it */
+
+struct run {
+    uint64_t first, count;
+    size_t map_length;
+};
+
+/* How many pages an entry of a level maps. */
+static uint64_t span_of(const struct vmsa_regime *r, unsigned level)
+{
+    return UINT64_C(1) << ((3 - level) * (page_bits[named(r->granule)] - 3));
+}
+
+/*
+ * Pages around one that tables lead to. One run in 16 begins with an entry of
+ * level 2 and mostly ends with one; few are as long as can be, or a page
+ * longer.
+ */
+static struct run random_run(const struct vmsa_regime *r)
+{
+    const uint64_t span = span_of(r, 2);
+    struct run run;
+
+    run.first = address() >> page_bits[named(r->granule)];
+    run.count = 1 + below(one_in(4) ? 700 : 40);
+    if (one_in(16)) {
+        run.first = run.first / span * span;
+        run.count = span * (1 + below(2)) - one_in(4);
+    } else if (run.first > 20) {
+        run.first -= below(20);
+    }
+    if (one_in(400))
+        run.count = VMSA_HARVEST_LIMIT + (unsigned)one_in(4);
+    if (one_in(50))
+        run.count = 0;
+    run.map_length = (size_t)(run.count + 7) / 8 + below(3);
+    if (one_in(20))
+        run.map_length = below((unsigned)run.map_length + 1);
+    if (run.map_length > sizeof map)
+        run.map_length = sizeof map;
+    return run;
+}
+
+/* The leaf of a page, and its level; or none. Any leaf is read from EL1. */
+static uint8_t *leaf_of(const struct vmsa_regime *r, uint64_t page,
+                        unsigned *level)
+{
+    struct vmsa_access access = { 0 };
+    struct vmsa_stepwise steps;
+    uint8_t *bytes = NULL;
+
+    access.address = page << page_bits[named(r->granule)];
+    access.size = 1;
+    access.kind = VMSA_PROBE_READ;
+    vmsa_stepwise_start(r, &access, &steps);
+    while (!steps.ended) {
+        bytes = bytes_at(before, r, steps.address);
+        offer(before, &steps, r);
+    }
+    *level = steps.answer.level;
+    return steps.answer.tag == VMSA_SUCCESS ? bytes : NULL;
+}
+
+/* What one page of a harvest is to change, of the map and of the memory. */
+static void expect_page(const struct vmsa_regime *r, struct run run, uint64_t n)
+{
+    unsigned level;
+    const uint8_t *bytes = leaf_of(r, run.first + n, &level);
+    const uint64_t span = span_of(r, level);
+    const uint64_t start = (run.first + n) / span * span;
+    const uint64_t value = bytes != NULL ? value_of(bytes, r->ee) : 0;
+
+    if ((value & (AP2 | AF | DBM)) != (AF | DBM))
+        return;
+    reported++;
+    expected[n / 8] |= (uint8_t)(1u << n % 8);
+    if (start < run.first || start + span > run.first + run.count)
+        return;
+    cleaned++;
+    put(updated + (bytes - before), r->ee, value | AP2);
+}
+
+static void lend_map(void)
+{
+    memset(map, 0x5A, sizeof map);
+    memset(expected, 0x5A, sizeof expected);
+    memcpy(before, memory, memory_bytes());
+    memcpy(updated, memory, memory_bytes());
+}
+
+/* What a harvest has left, and what it gave. */
+static void compare_harvest(const struct vmsa_regime *r, struct run run,
+                            uint8_t refusal)
+{
+    uint64_t n;
+
+    add_reply(refusal);
+    if (refusal == VMSA_ACCEPTED) {
+        harvests++;
+        memset(expected, 0, (size_t)(run.count + 7) / 8);
+        for (n = 0; n < run.count; n++)
+            expect_page(r, run, n);
+    }
+    check("harvest: another map", memcmp(map, expected, sizeof map) == 0);
+    check("harvest: other bytes",
+          memcmp(memory, updated, memory_bytes()) == 0);
+    add(map, sizeof map);
+}
+
+static void harvest(void)
+{
+    struct vmsa_regime r = one_in(4) ? random_regime() : regime;
+    struct run run = random_run(&r);
+    size_t length = length_now();
+
+    lend_map();
+    compare_harvest(&r, run,
+                    vmsa_harvest(memory, length, &r, run.first, run.count, map,
+                                 run.map_length));
+}
+
+static void harvest_session(void)
+{
+    struct vmsa_session wanted = session;
+    struct run run = random_run(&session.regime);
+    size_t length = length_now();
+    uint8_t refusal;
+
+    lend_map();
+    refusal = vmsa_session_harvest(&session, memory, length, run.first,
+                                   run.count, map, run.map_length);
+    if (refusal == VMSA_ACCEPTED)
+        memset(wanted.entries, 0, sizeof wanted.entries);
+    check("harvest: another session",
+          memcmp(&session, &wanted, sizeof session) == 0);
+    compare_harvest(&session.regime, run, refusal);
 }
 
 static void access_session(void)
@@ -521,6 +670,10 @@ static void call(void)
         walk();
     else if (which == 16)
         walk_any();
+    else if (which == 17)
+        harvest();
+    else if (which == 18)
+        harvest_session();
     else
         access_session();
 }
@@ -578,6 +731,8 @@ int main(void)
             printf(" %d: %u", i, refusals[i]);
     printf("\n%u walks a descriptor at a time too, %u with an update\n",
            stepped, updates);
+    printf("%u harvests of %u dirty pages, in %u of which a leaf was made "
+           "clean\n", harvests, reported, cleaned);
     printf("%d random calls, digest 0x%016" PRIx64 "\n", WORLDS * CALLS,
            digest);
     return differences != 0;

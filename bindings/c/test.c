@@ -1,16 +1,17 @@
 /*
  * Runs the library over the worked cases P1 to P12, every refusal, the largest
  * pool and memory, a script of a session, the bits of tables, the spare bytes
- * and VMSA_REGIME_INIT; over what EE turns; and over the tables of each granule
- * and what another granule turns; all of it in both byte orders. Each walk is
- * made a descriptor at a time too; and such walks have cases of their own, with
- * bytes that no call leaves among them. Then over the texts. Prints how many
- * checks were made, and how many failed.
+ * and VMSA_REGIME_INIT; over what EE turns; over the tables of each granule and
+ * what another granule turns; and over harvests, plain and in a session; all of
+ * it in both byte orders. Each walk is made a descriptor at a time too; and
+ * such walks have cases of their own, with bytes that no call leaves among
+ * them. Then over the texts. Prints how many checks were made, and how many
+ * failed.
  *
  * Each call goes through one of the expect functions. It takes what the call
  * is given and its answer; want has what the call is to leave of memory and
- * session, or of the walk a descriptor at a time. Every byte is compared. A
- * reader of a file of cases can use them in the same way.
+ * session, of the walk a descriptor at a time, or of a harvest's map. Every
+ * byte is compared. A reader of a file of cases can use them in the same way.
  */
 #include <stdio.h>
 #include <string.h>
@@ -43,13 +44,17 @@
 /*
  * What the calls are lent, and what it is to be afterwards. The memory starts
  * at an odd address, between two guards, in one of two rooms: the large one is
- * for the few checks that need it, since each compares every byte.
+ * for the few checks that need it, since each compares every byte. The map of a
+ * harvest lies between two guards too.
  */
 #define GUARD 63
+#define MAP (VMSA_HARVEST_LIMIT / 8 + 2) /* the most bytes of a map */
 
 static struct world {
     struct vmsa_session session;
     struct vmsa_stepwise walk;
+    size_t map_length; /* of the map lent */
+    uint8_t map[GUARD + MAP + GUARD];
     size_t length; /* of the memory lent; no call changes it */
     uint8_t *room;
     uint8_t usual[GUARD + 2 * LENGTH + GUARD];
@@ -2675,6 +2680,719 @@ static void test_granule_left(void)
             expect_left(tsz, left);
 }
 
+/* Harvests */
+
+#define AP2 UINT64_C(0x80)
+#define AF_BIT UINT64_C(0x400)
+#define DBM (UINT64_C(1) << 51)
+
+/* A map of so many bytes, with 0x5A in it and around it. */
+static void lend_map(size_t length)
+{
+    memset(want.map, 0x5A, sizeof want.map);
+    memcpy(lent.map, want.map, sizeof lent.map);
+    lent.map_length = length;
+}
+
+static uint8_t *map(void)
+{
+    return lent.map_length == 0 ? NULL : lent.map + GUARD;
+}
+
+/* A map with two bytes more than it needs, in which no page is to be dirty. */
+static void reports_none(uint64_t count)
+{
+    const size_t bytes = (size_t)(count + 7) / 8;
+
+    lend_map(bytes + 2);
+    memset(want.map + GUARD, 0, bytes);
+}
+
+/* So many pages are to be dirty, from one on that is counted from the first. */
+static void reports(uint64_t from, uint64_t count)
+{
+    for (; count > 0; count--, from++)
+        want.map[GUARD + from / 8] |= (uint8_t)(1u << from % 8);
+}
+
+static void check_map(const char *name)
+{
+    check_bytes(name, "map", lent.map, want.map, sizeof lent.map);
+    check_world(name);
+}
+
+static void expect_harvest(const char *name, struct vmsa_regime regime,
+                           uint64_t first, uint64_t count, unsigned refusal)
+{
+    const struct vmsa_regime before = regime;
+    uint8_t got = vmsa_harvest(memory(), lent.length, &regime, first, count,
+                               map(), lent.map_length);
+
+    check(name, "reply", got == refusal);
+    check_bytes(name, "regime", &regime, &before, sizeof regime);
+    check_map(name);
+}
+
+static void expect_session_harvest(const char *name, uint64_t first,
+                                   uint64_t count, unsigned refusal)
+{
+    uint8_t got = vmsa_session_harvest(&lent.session, memory(), lent.length,
+                                       first, count, map(), lent.map_length);
+
+    check(name, "reply", got == refusal);
+    check_map(name);
+}
+
+/* A session of this regime, with something in every other byte of it. */
+static void hold_anything(struct vmsa_regime regime)
+{
+    memset(&lent.session, 0xA5, sizeof lent.session);
+    lent.session.regime = regime;
+    want.session = lent.session;
+}
+
+/*
+ * A harvest, and one in a session over the same memory and map: they leave the
+ * same, and the second empties every entry, where it is not refused.
+ */
+static void expect_harvests(const char *name, struct vmsa_regime regime,
+                            uint64_t first, uint64_t count, unsigned refusal)
+{
+    static uint8_t before[sizeof want.large];
+    const size_t size = GUARD + lent.length + GUARD;
+
+    hold_anything(regime);
+    memcpy(before, lent.room, size);
+    expect_harvest(name, regime, first, count, refusal);
+    memcpy(lent.room, before, size);
+    memset(lent.map, 0x5A, sizeof lent.map);
+    if (refusal == VMSA_ACCEPTED)
+        holds_nothing();
+    expect_session_harvest(name, first, count, refusal);
+}
+
+/* P2's leaf, byte for byte: dirty, and clean again. */
+static void test_harvest_bytes(void)
+{
+    static const uint8_t dirty[2][8] = {
+        { 0x43, 0x57, 0x00, 0x80, 0x00, 0x00, 0x08, 0x00 },
+        { 0x00, 0x08, 0x00, 0x00, 0x80, 0x00, 0x57, 0x43 }
+    };
+    static const uint8_t clean[2][8] = {
+        { 0xC3, 0x57, 0x00, 0x80, 0x00, 0x00, 0x08, 0x00 },
+        { 0x00, 0x08, 0x00, 0x00, 0x80, 0x00, 0x57, 0xC3 }
+    };
+
+    fresh();
+    given_bytes(LEAF, dirty[ee]);
+    put_bytes(&want, LEAF, clean[ee]);
+    reports_none(1);
+    want.map[GUARD] = 0x01;
+    expect_harvests("harvest", worked_regime(), PAGE, 1, 0);
+    reports_none(1);
+    expect_harvests("harvest, again", worked_regime(), PAGE, 1, 0);
+
+    /* The same leaf, in the other range. */
+    given_bytes(LEAF, dirty[ee]);
+    put_bytes(&want, LEAF, clean[ee]);
+    reports_none(9);
+    want.map[GUARD + 1] = 0x01;
+    expect_harvests("harvest, range 1", worked_regime(),
+                    UINT64_C(0xFFFF000000403) - 8, 9, 0);
+}
+
+/* A leaf is dirty by three of its bits; the others have no say, and stay. */
+static void test_harvest_bits(void)
+{
+    static const uint64_t others[] = {
+        3, DIRTY, UINT64_C(0xFFF7FFFFFFFFFB7F), UINT64_C(0x555555555555)
+    };
+    const uint64_t marks = AF_BIT | DBM | AP2;
+    unsigned bits;
+    size_t i;
+
+    for (i = 0; i < sizeof others / sizeof others[0]; i++)
+        for (bits = 0; bits < 32; bits++) {
+            const uint64_t leaf =
+                (others[i] & ~(marks | 3)) | (bits & 3) |
+                (bits & 4 ? AF_BIT : 0) | (bits & 8 ? DBM : 0) |
+                (bits & 16 ? AP2 : 0);
+
+            fresh();
+            given(LEAF, leaf);
+            reports_none(1);
+            if (bits == (3 | 4 | 8)) {
+                reports(0, 1);
+                put(&want, LEAF, leaf | AP2);
+            }
+            expect_harvests("bits", worked_regime(), PAGE, 1, 0);
+        }
+}
+
+/* The leaf of page 0x400 + n; there are 512 in that table. */
+static uint64_t leaf_of(uint64_t n)
+{
+    return POOL + 0x3000 + 8 * n;
+}
+
+/*
+ * One dirty page among so many: it is the nth of them. The pages right before
+ * the first and right behind the last are dirty too, and stay so.
+ */
+static void expect_one(uint64_t first, uint64_t count, uint64_t n)
+{
+    fresh();
+    given(LEAF, CLEAN);
+    given(leaf_of(first - 1), DIRTY);
+    given(leaf_of(first + count), DIRTY);
+    given(leaf_of(first + n), DIRTY);
+    put(&want, leaf_of(first + n), READ);
+    reports_none(count);
+    reports(n, 1);
+    expect_harvests("one page", worked_regime(), 0x400 + first, count, 0);
+}
+
+static void test_harvest_places(void)
+{
+    uint64_t count, n;
+
+    for (count = 1; count <= 20; count++)
+        for (n = 0; n < count; n++)
+            expect_one(5, count, n);
+    for (n = 0; n < 500; n += 83)
+        expect_one(5, 500, n);
+}
+
+/* Every third page, among so many from one on; and then once more. */
+static void test_harvest_many(void)
+{
+    static const uint64_t runs[][2] = {
+        { 0x400, 512 }, { 0x401, 509 }, { 0x3F9, 527 }, { 0x5FF, 1 },
+        { 0, VMSA_HARVEST_LIMIT }, { 0x400, VMSA_HARVEST_LIMIT },
+        { 0x500, VMSA_HARVEST_LIMIT - 1 }
+    };
+    size_t i;
+    uint64_t n;
+
+    for (i = 0; i < sizeof runs / sizeof runs[0]; i++) {
+        const uint64_t first = runs[i][0], count = runs[i][1];
+
+        fresh();
+        reports_none(count);
+        for (n = 0; n < 512; n++) {
+            given(leaf_of(n), n % 3 == 0 ? DIRTY : READ);
+            if (n % 3 != 0 || 0x400 + n < first || 0x400 + n >= first + count)
+                continue;
+            put(&want, leaf_of(n), READ);
+            reports(0x400 + n - first, 1);
+        }
+        expect_harvests("many", worked_regime(), first, count, 0);
+        reports_none(count);
+        expect_harvests("many, again", worked_regime(), first, count, 0);
+    }
+}
+
+/* A bit less in the map than pages is refused; as many, or more, are not. */
+static void test_harvest_map_length(void)
+{
+    static const struct {
+        uint64_t count;
+        size_t length;
+        unsigned refusal;
+    } rows[] = {
+        { 1, 0, 11 }, { 1, 1, 0 }, { 8, 1, 0 }, { 9, 1, 11 }, { 9, 2, 0 },
+        { 16, 2, 0 }, { 17, 2, 11 }, { 17, 0, 11 }, { 17, 3, 0 },
+        { 65528, 8191, 0 }, { 65529, 8191, 11 }, { 65536, 8191, 11 },
+        { 65536, 8192, 0 }, { 65536, 8193, 0 }, { 65536, 1, 11 }
+    };
+    size_t i;
+
+    for (i = 0; i < sizeof rows / sizeof rows[0]; i++) {
+        fresh();
+        given(LEAF, DIRTY);
+        lend_map(rows[i].length);
+        if (rows[i].refusal == 0) {
+            memset(want.map + GUARD, 0, (size_t)(rows[i].count + 7) / 8);
+            reports(0, 1);
+            put(&want, LEAF, READ);
+        }
+        expect_harvests("map length", worked_regime(), PAGE, rows[i].count,
+                        rows[i].refusal);
+    }
+}
+
+/* What a harvest is made with. */
+struct harvest {
+    struct vmsa_regime regime;
+    uint64_t first, count;
+    size_t map_length;
+};
+
+static void spoil_harvest(unsigned number, struct harvest *harvest)
+{
+    switch (number) {
+    case VMSA_REFUSED_MEMORY_POOL:
+        harvest->regime.start = 4096;
+        break;
+    case VMSA_REFUSED_POOL_ADDRESS:
+        harvest->regime.address = POOL + 8;
+        break;
+    case VMSA_REFUSED_PAGE_RANGE:
+        harvest->first = LIMIT48 >> 12;
+        break;
+    case VMSA_REFUSED_MAP_LENGTH:
+        harvest->map_length = 0;
+        break;
+    default:
+        spoil(number, &harvest->regime, NULL);
+    }
+}
+
+/* Each mistake alone, and any two of them; and all of them with no regime. */
+static void test_harvest_refused(void)
+{
+    static const unsigned numbers[] = { 1, 2, 3, 4, 5, 13, 10, 11 };
+    const size_t count = sizeof numbers / sizeof numbers[0];
+    struct harvest harvest;
+    size_t first, later;
+
+    for (first = 0; first < count; first++)
+        for (later = first; later < count; later++) {
+            const struct harvest good = { worked_regime(), PAGE, 9, 2 };
+
+            harvest = good;
+            spoil_harvest(numbers[later], &harvest);
+            spoil_harvest(numbers[first], &harvest);
+            fresh();
+            given(LEAF, DIRTY);
+            lend_map(harvest.map_length);
+            expect_harvests("harvest, refused", harvest.regime, harvest.first,
+                            harvest.count, numbers[first]);
+            lent.session.set = want.session.set = 0;
+            expect_session_harvest("harvest, no regime", harvest.first,
+                                   harvest.count, 9);
+        }
+}
+
+/* The rows of the pool and the memory, in the numbers that other calls have. */
+static void test_harvest_memory(void)
+{
+    struct vmsa_regime regime = worked_regime();
+
+    fresh();
+    given(LEAF, DIRTY);
+    lend_map(1);
+    lent.length = 0;
+    expect_harvests("harvest, no memory", regime, PAGE, 1, 1);
+    lent.length = LENGTH - 1;
+    expect_harvests("harvest, short memory", regime, PAGE, 1, 1);
+    lent.length = LENGTH;
+    regime.length = 0;
+    expect_harvests("harvest, empty pool", regime, PAGE, 1, 1);
+
+    regime = largest_regime(POOL);
+    fresh_largest(POOL);
+    lend_map(1);
+    lent.length = VMSA_MEMORY_LIMIT + 1;
+    expect_harvests("harvest, memory above its limit", regime, PAGE, 1, 1);
+    lent.length = VMSA_MEMORY_LIMIT;
+    regime.length = VMSA_POOL_LIMIT + 4096;
+    expect_harvests("harvest, pool above its limit", regime, PAGE, 1, 1);
+}
+
+/* What has no say, over a leaf that is dirty. */
+static void test_harvest_no_say(void)
+{
+    static const uint64_t bits = NO_SAY | NO_WRITE | NO_EL0 | NO_EL0_FETCH |
+                                 NO_EL1_FETCH | DBM | AF_BIT | AP2;
+    unsigned flags;
+
+    for (flags = 0; flags < 64; flags++) {
+        struct vmsa_regime regime = worked_regime();
+        unsigned level;
+
+        fresh();
+        for (level = 0; level < LAST_LEVEL && flags & 1; level++)
+            given(on_the_way[level].address, on_the_way[level].value | bits);
+        regime.ha = flags & 2 ? 0 : 0x80;
+        regime.hd = flags & 6 ? 0 : 0xFF;
+        regime.wxn = (flags & 8) != 0;
+        regime.hpd0 = flags & 16 ? 0x40 : 0;
+        regime.attributes = flags & 32 ? 0 : UINT64_MAX;
+        memset(regime.spare, (int)flags, sizeof regime.spare);
+        given(LEAF, DIRTY);
+        put(&want, LEAF, READ);
+        reports_none(3);
+        reports(1, 1);
+        expect_harvests("no say", regime, PAGE - 1, 3, 0);
+    }
+}
+
+/* A dirty leaf that no walk of the page reaches. */
+static void expect_nowhere(const char *name, struct vmsa_regime regime)
+{
+    reports_none(11);
+    expect_harvests(name, regime, PAGE - 2, 11, 0);
+}
+
+static void test_harvest_nowhere(void)
+{
+    struct vmsa_regime regime = worked_regime();
+    unsigned level, type;
+
+    fresh();
+    given(LEAF, DIRTY);
+    regime.disabled0 = 0x80;
+    expect_nowhere("disabled", regime);
+    regime = worked_regime();
+    regime.output = 0;
+    regime.root0 = UINT64_C(1) << 32;
+    expect_nowhere("root beyond the output size", regime);
+    regime.root0 = POOL + LENGTH;
+    expect_nowhere("root outside the pool", regime);
+    regime.root0 = POOL;
+    for (level = 0; level < LEVELS; level++) {
+        const uint64_t value = level < LAST_LEVEL ? on_the_way[level].value
+                                                  : DIRTY;
+
+        for (type = 0; type < 3; type++) {
+            given(on_the_way[level].address, (value & ~UINT64_C(3)) | type);
+            if (type != 1 || !shape->blocks[level])
+                expect_nowhere("no descriptor", regime);
+        }
+        given(on_the_way[level].address, value | UINT64_C(1) << 32);
+        expect_nowhere("beyond the output size", regime);
+        given(on_the_way[level].address, value + LENGTH);
+        if (level < LAST_LEVEL)
+            expect_nowhere("outside the pool", regime);
+        given(on_the_way[level].address, value);
+    }
+}
+
+/* Two entries that lead to one table, so that two pages share each leaf. */
+static void test_harvest_shared(void)
+{
+    fresh();
+    given(THIRD + 8, TABLE);
+    given(LEAF, DIRTY);
+    put(&want, LEAF, READ);
+    reports_none(0x201);
+    reports(0, 1);
+    reports(0x200, 1);
+    expect_harvests("shared", worked_regime(), PAGE, 0x201, 0);
+
+    /* Either alone makes the leaf clean, and the other is no longer dirty. */
+    given(LEAF, DIRTY);
+    put(&want, LEAF, READ);
+    reports_none(0x200);
+    reports(0, 1);
+    expect_harvests("shared, first", worked_regime(), PAGE, 0x200, 0);
+    given(LEAF, DIRTY);
+    put(&want, LEAF, READ);
+    reports_none(1);
+    reports(0, 1);
+    expect_harvests("shared, second", worked_regime(), PAGE + 0x200, 1, 0);
+    reports_none(1);
+    expect_harvests("shared, the other", worked_regime(), PAGE, 1, 0);
+}
+
+/*
+ * A root that is a table of every level: its entries are tables on the way and
+ * leaves, and AP[2] of a table has no say.
+ */
+static void test_harvest_loop(void)
+{
+    const uint64_t page = UINT64_C(0x8040201); /* by entry 1 at each level */
+    const uint64_t marked = POOL | AF_BIT | DBM | 3;
+
+    fresh();
+    given(POOL, UINT64_C(0x40001003) | AF_BIT | DBM);
+    given(POOL + 8, marked);
+    put(&want, POOL, UINT64_C(0x40001003) | AF_BIT | DBM | AP2);
+    put(&want, POOL + 8, marked | AP2);
+    given(LEAF, DIRTY);
+    reports_none(8);
+    reports(0, 2);
+    expect_harvests("loop", worked_regime(), page - 1, 8, 0);
+    reports_none(8);
+    expect_harvests("loop, again", worked_regime(), page - 1, 8, 0);
+    put(&want, LEAF, READ);
+    reports_none(1);
+    reports(0, 1);
+    expect_harvests("loop, below", worked_regime(), PAGE, 1, 0);
+}
+
+/* A session: what is written is reported, each time, and nothing is held. */
+static void test_harvest_script(void)
+{
+    const uint64_t output = FRAME + 0xABC;
+    int round;
+
+    started();
+    for (round = 0; round < 3; round++) {
+        put(&want, LEAF, DIRTY);
+        holds(PAGE, DIRTY);
+        expect_access("harvested, write", a_write(),
+                      found(output, DIRTIED, 4));
+        expect_access("harvested, held", a_write(), found(output, 0, 0));
+        lend_map(0);
+        expect_session_harvest("harvested, no map", PAGE, 1, 11);
+        expect_session_harvest("harvested, no pages", PAGE, 0, 10);
+        expect_access("harvested, held", a_write(), found(output, 0, 0));
+        reports_none(1);
+        reports(0, 1);
+        put(&want, LEAF, READ);
+        holds_nothing();
+        expect_session_harvest("harvested", PAGE, 1, 0);
+        reports_none(1);
+        expect_session_harvest("harvested, again", PAGE, 1, 0);
+    }
+
+    /* It is a drop, too, of pages that it was not asked for. */
+    holds(PAGE, READ);
+    expect_access("dropped", a_read(), found(output, 0, 4));
+    put(&want, LEAF, 0);
+    expect_store("dropped", LEAF, 0, VMSA_ACCEPTED);
+    expect_access("dropped, held", a_read(), found(output, 0, 0));
+    holds_nothing();
+    reports_none(1);
+    expect_session_harvest("dropped", 0, 1, 0);
+    expect_access("dropped, seen", a_read(), fault(7, 3, 4));
+}
+
+/* A plain harvest leaves what a session holds: the next write has no mark. */
+static void test_harvest_lost(void)
+{
+    const uint64_t output = FRAME + 0xABC;
+
+    started();
+    put(&want, LEAF, DIRTY);
+    holds(PAGE, DIRTY);
+    expect_access("lost, write", a_write(), found(output, DIRTIED, 4));
+    put(&want, LEAF, READ);
+    reports_none(1);
+    reports(0, 1);
+    expect_harvest("lost", worked_regime(), PAGE, 1, 0);
+    expect_access("lost, no mark", a_write(), found(output, 0, 0));
+    reports_none(1);
+    expect_harvest("lost, not seen", worked_regime(), PAGE, 1, 0);
+    holds_nothing();
+    expect_invalidate("lost");
+    put(&want, LEAF, DIRTY);
+    holds(PAGE, DIRTY);
+    expect_access("lost, dropped", a_write(), found(output, DIRTIED, 4));
+}
+
+/* Any byte but 0 says that a session has a regime; others may be any. */
+static void test_harvest_odd(void)
+{
+    unsigned value;
+
+    fresh();
+    for (value = 1; value <= UINT8_MAX; value++) {
+        given(LEAF, DIRTY);
+        put(&want, LEAF, READ);
+        reports_none(1);
+        reports(0, 1);
+        hold_anything(worked_regime());
+        lent.session.set = (uint8_t)value;
+        want.session = lent.session;
+        holds_nothing();
+        expect_session_harvest("any set", PAGE, 1, 0);
+        memset(&lent.session, (int)value, sizeof lent.session);
+        want.session = lent.session;
+        lend_map(1);
+        expect_session_harvest("any bytes", PAGE, 1, 1);
+    }
+    memset(&lent.session, 0, sizeof lent.session);
+    want.session = lent.session;
+    expect_session_harvest("zeroed", PAGE, 1, 9);
+}
+
+/* Harvests of each granule */
+
+static uint64_t page_of(uint64_t address)
+{
+    return address >> shape->low[LAST_LEVEL];
+}
+
+/* From every first level to a page, in both ranges, the last page too. */
+static void test_harvest_levels(void)
+{
+    static const uint64_t addresses[] = { SOME, ~SOME, UINT64_MAX };
+    unsigned tsz, range;
+    size_t i;
+
+    for (tsz = LEAST_T; tsz <= MOST_T; tsz++)
+        for (i = 0; i < sizeof addresses / sizeof addresses[0]; i++)
+            for (range = 0; range < 2; range++) {
+                uint64_t address = low_bits(addresses[i], 64 - tsz);
+
+                if (range == 1)
+                    address |= UINT64_MAX << (64 - tsz);
+                fresh_way(tsz, address, LAST_LEVEL, DIRTY);
+                put(&want, entry_of(tsz, LAST_LEVEL, address), READ);
+                reports_none(1);
+                reports(0, 1);
+                expect_harvests("level", shaped_regime(tsz), page_of(address),
+                                1, 0);
+            }
+}
+
+/*
+ * Pages around a dirty block: from so many before its start to so many behind
+ * its end, counted the other way where they are negative.
+ */
+static void expect_around(unsigned level, uint64_t address, int64_t before,
+                          int64_t behind)
+{
+    const uint64_t span = UINT64_C(1)
+                          << (shape->low[level] - shape->low[LAST_LEVEL]);
+    const uint64_t start = page_of(address) / span * span;
+    const uint64_t first = start - (uint64_t)before;
+    const uint64_t count = span + (uint64_t)before + (uint64_t)behind;
+    const uint64_t from = before > 0 ? (uint64_t)before : 0;
+    const uint64_t to = behind > 0 ? count - (uint64_t)behind : count;
+
+    fresh_way(LEAST_T, address, level, DIRTY & ~UINT64_C(2));
+    if (before >= 0 && behind >= 0)
+        put(&want, entry_of(LEAST_T, level, address), READ & ~UINT64_C(2));
+    reports_none(count);
+    reports(from, to - from);
+    expect_harvests("block", shaped_regime(LEAST_T), first, count, 0);
+}
+
+static void expect_block_harvests(unsigned level, uint64_t address)
+{
+    const int64_t span = INT64_C(1)
+                         << (shape->low[level] - shape->low[LAST_LEVEL]);
+    const int64_t most = VMSA_HARVEST_LIMIT;
+    int64_t before, behind;
+
+    if (span > most) {
+        expect_around(level, address, 0, most - span);
+        expect_around(level, address, most - span, 0);
+        expect_around(level, address, -1, 1 - span + 100);
+        expect_around(level, address, 9, most - span - 9);
+        return;
+    }
+    for (before = -2; before <= 2; before++)
+        for (behind = -2; behind <= 2; behind++)
+            expect_around(level, address, before, behind);
+    expect_around(level, address, 0, 1 - span);
+    expect_around(level, address, 1 - span, 0);
+    expect_around(level, address, 0, most - span);
+    expect_around(level, address, most - span, 0);
+    expect_around(level, address, 1 - span, most - 1);
+}
+
+/* A block is made clean where all of it is asked for. */
+static void test_harvest_blocks(void)
+{
+    unsigned level;
+
+    for (level = 0; level < LAST_LEVEL; level++)
+        if (shape->blocks[level]) {
+            expect_block_harvests(level, SOME);
+            expect_block_harvests(level, SOME | UINT64_MAX << 48);
+        }
+}
+
+/* Nothing is mapped: accepted with a map of zeros, or refused with 10. */
+static void expect_pages(struct vmsa_regime regime, uint64_t first,
+                         uint64_t count, int taken)
+{
+    if (taken)
+        reports_none(count);
+    else
+        lend_map(MAP);
+    expect_harvests("pages", regime, first, count, taken ? 0 : 10);
+}
+
+/* The bounds of one range, from its first page to the one past its last. */
+static void expect_bounds(struct vmsa_regime regime, uint64_t begin,
+                          uint64_t end)
+{
+    const uint64_t pages = end - begin;
+    const uint64_t most = VMSA_HARVEST_LIMIT;
+    const uint64_t some = pages < most ? pages : most;
+
+    expect_pages(regime, begin, 1, 1);
+    expect_pages(regime, begin, some, 1);
+    expect_pages(regime, begin, some + 1, 0);
+    expect_pages(regime, begin, 0, 0);
+    expect_pages(regime, begin, most + 1, 0);
+    expect_pages(regime, begin, UINT64_MAX, 0);
+    expect_pages(regime, begin - 1, 1, 0);
+    expect_pages(regime, begin - 1, 2, 0);
+    expect_pages(regime, end - some, some, 1);
+    expect_pages(regime, end - some + 1, some, 0);
+    expect_pages(regime, end - 1, 1, 1);
+    expect_pages(regime, end - 1, 2, 0);
+    expect_pages(regime, end - 1, 0, 0);
+    expect_pages(regime, end - 1, UINT64_MAX - end + 2, 0);
+    expect_pages(regime, end, 1, 0);
+    expect_pages(regime, end, 0, 0);
+}
+
+static void test_harvest_ranges(void)
+{
+    const uint64_t top = UINT64_C(1) << (64 - shape->low[LAST_LEVEL]);
+    unsigned tsz, disabled;
+
+    for (tsz = LEAST_T; tsz <= MOST_T; tsz++)
+        for (disabled = 0; disabled < 2; disabled++) {
+            const uint64_t pages = top >> tsz;
+            struct vmsa_regime regime = shaped_regime(MOST_T);
+
+            regime.disabled0 = regime.disabled1 = (uint8_t)disabled;
+            blank_of(regime.length);
+            regime.tsz0 = (uint8_t)tsz;
+            expect_bounds(regime, 0, pages);
+            regime.tsz0 = LEAST_T + MOST_T - regime.tsz0;
+            regime.tsz1 = (uint8_t)tsz;
+            expect_bounds(regime, top - pages, top);
+            expect_pages(regime, UINT64_MAX, 1, 0);
+            expect_pages(regime, top | 3, 1, 0);
+        }
+}
+
+/* The last leaf of the longest pool is reported, and not the one behind it. */
+static void test_harvest_limit(void)
+{
+    const uint64_t end = POOL + VMSA_POOL_LIMIT;
+    const struct vmsa_regime regime = fresh_limit();
+
+    given(end - 8, DIRTY);
+    given(end, DIRTY);
+    put(&want, end - 8, READ);
+    reports_none(2);
+    reports(0, 1);
+    expect_harvests("limit", regime, page_of(next_table()) - 1, 2, 0);
+}
+
+/* Every value of the byte, given and where a session has it. */
+static void test_harvest_granules(void)
+{
+    unsigned value;
+
+    for (value = 0; value <= UINT8_MAX; value++) {
+        const struct vmsa_regime regime = turned_regime((uint8_t)value);
+        uint64_t leaf;
+
+        shape = shape_of((uint8_t)value);
+        leaf = turned_leaf() & ~AP2;
+        fresh_turned();
+        given(entry_of(MOST_T, first_level(MOST_T), TURNED), leaf);
+        reports_none(1);
+        reports(0, 1);
+        if (first_level(MOST_T) == LAST_LEVEL)
+            put(&want, entry_of(MOST_T, LAST_LEVEL, TURNED), leaf | AP2);
+        expect_harvests("any granule", regime, page_of(TURNED), 1, 0);
+    }
+    shape = shapes;
+}
+
 /* Texts */
 
 /* The numbers with a text of their own. */
@@ -2689,6 +3407,8 @@ static const unsigned known[] = {
     VMSA_REFUSED_PAGE_CROSSING,
     VMSA_REFUSED_STORE_ADDRESS,
     VMSA_REFUSED_NO_REGIME,
+    VMSA_REFUSED_PAGE_RANGE,
+    VMSA_REFUSED_MAP_LENGTH,
     VMSA_REFUSED_WALK_ENDED,
     VMSA_REFUSED_DIRTY_STATE
 };
@@ -2813,6 +3533,32 @@ static void test_steps(void)
     test_steps_sum();
 }
 
+static void test_harvests(void)
+{
+    test_harvest_bytes();
+    test_harvest_bits();
+    test_harvest_places();
+    test_harvest_many();
+    test_harvest_map_length();
+    test_harvest_refused();
+    test_harvest_memory();
+    test_harvest_no_say();
+    test_harvest_nowhere();
+    test_harvest_shared();
+    test_harvest_loop();
+    test_harvest_script();
+    test_harvest_lost();
+    test_harvest_odd();
+    test_harvest_granules();
+    for (shape = shapes; shape < shapes + SHAPES; shape++) {
+        test_harvest_levels();
+        test_harvest_blocks();
+        test_harvest_ranges();
+        test_harvest_limit();
+    }
+    shape = shapes;
+}
+
 static void test_granules(void)
 {
     for (shape = shapes; shape < shapes + SHAPES; shape++) {
@@ -2848,6 +3594,7 @@ int main(void)
         test_order();
         test_steps();
         test_granules();
+        test_harvests();
     }
     printf("%u checks, %u failed\n", checks, failures);
     return failures != 0;

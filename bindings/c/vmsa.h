@@ -9,7 +9,8 @@
  * No value needs checking before a call: every field may have any value, a
  * flag is true where its byte is not 0, and the memory pointer may be null
  * where the length is 0. A call that makes no sense is refused with a number
- * (enum vmsa_refusal) and changes neither memory nor session.
+ * (enum vmsa_refusal) and changes neither memory nor session, nor the map of a
+ * harvest.
  *
  * What a guest must not use
  *
@@ -24,9 +25,9 @@
  * Out of contract
  *
  * Three things: a bad pointer (null for a struct, or one that does not name a
- * whole struct or length bytes), two pointers of one call that overlap, and a
- * write by anyone else to what is lent, while the call runs. No function keeps
- * a pointer.
+ * whole struct, length bytes or map_length bytes), two pointers of one call
+ * that overlap, and a write by anyone else to what is lent, while the call
+ * runs. No function keeps a pointer.
  *
  * What is returned
  *
@@ -55,8 +56,39 @@
  *   - It walks a descriptor at a time (vmsa_stepwise_start), which lends
  *     nothing and hands out the expected and the new value of the one update.
  *
+ * A harvest changes many descriptors. Over a copy of the pool each change is
+ * put into the guest's table by a compare-and-swap of its own. Where one fails
+ * the leaf stays as it is, and if it is dirty the next harvest reports it.
+ *
  * Two threads may call at the same time unless they share a memory, a session,
- * an answer or a walk.
+ * an answer, a walk or a map.
+ *
+ * Dirty pages
+ *
+ * A harvest (vmsa_harvest, vmsa_session_harvest) reports the pages whose leaf
+ * is marked dirty, and nothing else. A WRITTEN PAGE IS LOST where a monitor
+ * forgets one of these:
+ *   1. A page that was written and whose Access flag the guest has cleared
+ *      since is NOT reported; nor is one that it has made clean or unmapped
+ *      itself. With a guest that ages its pages, harvest before it does, or
+ *      take every leaf with DBM set, AP[2] clear and the Access flag clear for
+ *      dirty yourself.
+ *   2. vmsa_harvest over a pool that a session has translations of LOSES MARKS:
+ *      an entry still holds the leaf as dirty and answers the next write, which
+ *      makes no new mark. Use vmsa_session_harvest, or else call
+ *      vmsa_session_invalidate_all at once, before the next access. Either
+ *      empties one session: empty every other one that uses this pool, and
+ *      throw away a walk a descriptor at a time that is under way.
+ *   3. A page that is writable without DBM (DBM clear, AP[2] clear) is NEVER
+ *      reported. Take it for dirty always, or have the guest use DBM.
+ *   4. Copy a page AFTER the harvest that reports it. Where vCPUs run,
+ *      invalidate their TLBs in between: they may hold the page as dirty, and
+ *      write it without a mark. And carry out, before the copy, each write
+ *      whose access was answered before the harvest.
+ *   5. Two addresses share a leaf where two entries lead to one table. A
+ *      harvest of both reports both. A harvest of one alone makes the leaf
+ *      clean, and a later harvest of the other does not report it: ask for both
+ *      at once, or go by the addresses that the pages lead to.
  */
 #ifndef VMSA_H
 #define VMSA_H
@@ -73,7 +105,7 @@ extern "C" {
 #endif
 
 /* The version of this interface; vmsa_version() gives the library's. */
-#define VMSA_VERSION 10u
+#define VMSA_VERSION 11u
 
 /*
  * The most bytes of a lent memory, and of a pool: 256 tables of 4 KiB, 64 of
@@ -84,6 +116,9 @@ extern "C" {
 
 /* The TLB entries of a session. */
 #define VMSA_ENTRIES 64
+
+/* The most pages of a harvest. Its map then has 8192 bytes. */
+#define VMSA_HARVEST_LIMIT 65536u
 
 /*
  * The granules, by their numbers in TCR_EL1.TG0; any other number is taken as
@@ -130,9 +165,8 @@ struct vmsa_regime {
     uint8_t ee;          /* SCTLR_EL1.EE: the 8 bytes of each descriptor, of
                             both ranges, are big-endian, or else
                             little-endian. What a monitor reads of the
-                            tables itself, to find dirty pages say, is in
-                            this order too. It has no say in a device's
-                            data */
+                            tables itself is in this order too. It has no
+                            say in a device's data */
     uint8_t granule;     /* TG0, enum vmsa_granule: that of both ranges */
     uint8_t spare[4];
 };
@@ -194,6 +228,8 @@ enum vmsa_fault_code {
  *   vmsa_session_set_regime  1, 2, 3, 4, 5, 13
  *   vmsa_session_access      9, 1, 6, 7
  *   vmsa_session_store       9, 1, 8
+ *   vmsa_harvest             1, 2, 3, 4, 5, 13, 10, 11
+ *   vmsa_session_harvest     9, 1, 2, 3, 4, 5, 13, 10, 11
  *   vmsa_stepwise_start      3, 4, 5, 13, 6, 7
  *   vmsa_stepwise_value, vmsa_stepwise_unreachable  12
  * Later versions add numbers: a switch over them needs a default.
@@ -218,6 +254,12 @@ enum vmsa_refusal {
     VMSA_REFUSED_STORE_ADDRESS = 8, /* not a multiple of 8, or not in the
                                        pool */
     VMSA_REFUSED_NO_REGIME = 9,     /* the session has no regime yet */
+    VMSA_REFUSED_PAGE_RANGE = 10,   /* the first page is in neither range;
+                                       no pages, more than the limit of a
+                                       harvest, or past the end of the first
+                                       page's range */
+    VMSA_REFUSED_MAP_LENGTH = 11,   /* the map has fewer bits than there are
+                                       pages */
     VMSA_REFUSED_WALK_ENDED = 12,   /* offered to a walk that has ended */
     VMSA_REFUSED_DIRTY_STATE = 13   /* hd is set and ha is not */
 };
@@ -345,6 +387,49 @@ uint8_t vmsa_session_store(struct vmsa_session *session,
 void vmsa_session_invalidate_all(struct vmsa_session *session);
 
 /*
+ * Harvests dirty pages: the map says which of count pages, from page number
+ * first on, are marked dirty, and their leaves are made writable-clean again.
+ * Gives 0, or the refusal. "Dirty pages" above says how no page is lost.
+ *
+ * A page's number is the guest's address divided by the granule, bits 63 down
+ * to 12, 14 or 16 of it; so those of range 1 are large, with T1SZ 16 and 4 KiB
+ * 0xFFFF000000000 and up. There are 1 to VMSA_HARVEST_LIMIT pages, all in the
+ * range of the first. The map has (count + 7) / 8 bytes, or more; it may be
+ * null where map_length is 0, which is refused.
+ *
+ * Bit n of the map (byte n / 8, place n % 8 from the lowest) becomes 1 exactly
+ * where steps 1 to 5 of the walk (docs/RULES.md, 6) lead from page first + n,
+ * over the pool as the call finds it, to a leaf with the Access flag and DBM
+ * set and AP[2] clear. The bits past the last page in its byte become 0, and
+ * later bytes of the map stay as they were.
+ *
+ * Then AP[2] is set in each such leaf whose whole span is among the pages, in
+ * the byte order of ee; nothing else in the memory changes. A block that sticks
+ * out of the pages is reported and left, and so reported again by each harvest
+ * of a part of it. None sticks out of VMSA_HARVEST_LIMIT pages from a multiple
+ * of that number on, but for a block of 1 GiB (4 KiB granule), which has more
+ * pages than a harvest: store such a leaf with AP[2] set yourself.
+ *
+ * ha, hd and what tables take away have no say. (So with hd off, too, a page is
+ * made clean, and its next write is a Permission fault.) No page of a disabled
+ * range reaches a leaf; a harvest there is accepted, and its map all 0.
+ */
+uint8_t vmsa_harvest(uint8_t *memory, size_t length,
+                     const struct vmsa_regime *regime,
+                     uint64_t first, uint64_t count,
+                     uint8_t *map, size_t map_length);
+
+/*
+ * As vmsa_harvest under the session's regime. Accepted, it also empties every
+ * entry, so that the next write of a page marks it again and no call of
+ * vmsa_session_invalidate_all is needed; nothing else of the session changes.
+ */
+uint8_t vmsa_session_harvest(struct vmsa_session *session,
+                             uint8_t *memory, size_t length,
+                             uint64_t first, uint64_t count,
+                             uint8_t *map, size_t map_length);
+
+/*
  * Starts a walk a descriptor at a time. The walk may have ended at once:
  * refused, or with a fault before any descriptor is read. It ends after at most
  * four offers, whatever is offered. An access goes as follows.
@@ -416,6 +501,10 @@ static inline const char *vmsa_refusal_text(unsigned number)
         return "the descriptor is unaligned or not in the pool";
     case VMSA_REFUSED_NO_REGIME:
         return "the session has no regime";
+    case VMSA_REFUSED_PAGE_RANGE:
+        return "the pages are none, too many, or not all in one range";
+    case VMSA_REFUSED_MAP_LENGTH:
+        return "the map has fewer bits than there are pages";
     case VMSA_REFUSED_WALK_ENDED:
         return "the walk has ended";
     case VMSA_REFUSED_DIRTY_STATE:

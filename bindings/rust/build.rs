@@ -9,7 +9,7 @@
 //!
 //! The archive is bundled into this crate, so that tests, doc tests and every
 //! crate that depends on this one get it without a build script of their own.
-//! Its objects hold the ten functions and no runtime; nothing in them is
+//! Its objects hold the functions of `vmsa.h` and no runtime; nothing in them is
 //! defined a second time by the standard library.
 
 use std::env;

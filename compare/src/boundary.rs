@@ -8,12 +8,14 @@
 //! writes. So there is noise in all of them that it is given, and wherever it
 //! only writes.
 
+mod harvest;
 mod session;
 mod stepwise;
 
 use crate::geometry::Granule;
 use crate::random::Random;
 use crate::reference::{Access, Answer, Kind, Pool, Range, Regime};
+pub use harvest::{HarvestFunction, Harvester, LibraryHarvest};
 pub use session::{CEntry, CSession, LibrarySession, Reply, SessionFunctions, Subject, SUM_BITS};
 use std::mem::{self, offset_of, size_of};
 use std::{array, slice};

@@ -2,10 +2,10 @@
 //!
 //! `compare [seed] [--trace]`: its walk over many made cases, and a descriptor
 //! at a time over some of them, over readers that are no pools and from any
-//! bytes; then its session over many made scripts, and from any bytes. The seed
-//! is decimal or 0x hexadecimal. With `--trace` each case and each call is told
-//! on standard error before the library is called, so that a crash can be
-//! placed.
+//! bytes; its harvest over many others; then its session over many made
+//! scripts, and from any bytes. The seed is decimal or 0x hexadecimal. With
+//! `--trace` each case and each call is told on standard error before the
+//! library is called, so that a crash can be placed.
 //!
 //! `compare vectors FILE..`: library and second program on the cases of files,
 //! which also say what should come of them (`vectors/README.md`).
@@ -16,13 +16,13 @@
 mod comparison;
 
 use compare::boundary::{
-    CAccess, CAnswer, CRegime, CSession, CStepwise, Library, LibrarySession, LibraryStepwise,
-    SessionFunctions, Spelling, Stepper, StepwiseFunctions,
+    CAccess, CAnswer, CRegime, CSession, CStepwise, Harvester, Library, LibraryHarvest,
+    LibrarySession, LibraryStepwise, SessionFunctions, Spelling, Stepper, StepwiseFunctions,
 };
 use compare::reference::{Access, Regime};
 use compare::stepwise::Trial;
 use compare::vectors::{File, Party};
-use compare::{cases, scripts};
+use compare::{cases, harvest, scripts};
 use comparison::Comparison;
 use std::process::ExitCode;
 
@@ -62,6 +62,24 @@ extern "C" {
         value: u64,
     ) -> u8;
     fn vmsa_session_invalidate_all(session: *mut CSession);
+    fn vmsa_session_harvest(
+        session: *mut CSession,
+        memory: *mut u8,
+        length: usize,
+        first: u64,
+        count: u64,
+        map: *mut u8,
+        map_length: usize,
+    ) -> u8;
+    fn vmsa_harvest(
+        memory: *mut u8,
+        length: usize,
+        regime: *const CRegime,
+        first: u64,
+        count: u64,
+        map: *mut u8,
+        map_length: usize,
+    ) -> u8;
     fn vmsa_stepwise_start(regime: *const CRegime, access: *const CAccess, walk: *mut CStepwise);
     fn vmsa_stepwise_value(walk: *mut CStepwise, value: u64) -> u8;
     fn vmsa_stepwise_unreachable(walk: *mut CStepwise) -> u8;
@@ -73,6 +91,7 @@ const SESSION: SessionFunctions = SessionFunctions {
     access: vmsa_session_access,
     store: vmsa_session_store,
     invalidate_all: vmsa_session_invalidate_all,
+    harvest: vmsa_session_harvest,
 };
 
 const STEPWISE: StepwiseFunctions = StepwiseFunctions {
@@ -86,6 +105,12 @@ fn stepwise() -> LibraryStepwise {
     // SAFETY: these are the functions under test; that they keep to the
     // structs they are lent is what they promise.
     unsafe { LibraryStepwise::new(STEPWISE) }
+}
+
+/// The library's plain harvest.
+fn harvester() -> LibraryHarvest {
+    // SAFETY: as above, and the margins look after memory and map.
+    unsafe { LibraryHarvest::new(vmsa_harvest) }
 }
 
 fn parse_seed(text: &str) -> Option<u64> {
@@ -120,6 +145,21 @@ fn compare_stepwise(seed: u64, trace: bool, mut trial: Trial<LibraryStepwise>) -
     }
     let (walks, foreign) = (trial.tally.walks(), trial.tally.foreign());
     println!("compared {walks} stepwise walks and {foreign} of any bytes, 0 differences");
+    true
+}
+
+/// The plain harvest.
+fn compare_harvests(seed: u64, trace: bool) -> bool {
+    let mut trial = harvest::Trial::new(harvester(), seed, trace);
+    if let Err(difference) = trial.run_all() {
+        println!("with seed {seed}: {difference}");
+        return false;
+    }
+    if !trial.tally.report() {
+        return false;
+    }
+    let (harvests, pages) = (trial.tally.harvests(), trial.tally.pages());
+    println!("compared {harvests} harvests, {pages} pages, 0 differences");
     true
 }
 
@@ -167,6 +207,10 @@ impl Party for Linked {
     fn stepper(&self) -> impl Stepper {
         stepwise()
     }
+
+    fn harvester(&self) -> impl Harvester {
+        harvester()
+    }
 }
 
 /// The vectors of some files, once all of them are read.
@@ -200,7 +244,8 @@ fn compare_made(arguments: &[String]) -> ExitCode {
         }
     }
     println!("seed {seed}");
-    verdict(compare_walks(seed, trace) && compare_scripts(seed, trace))
+    let all_same = compare_walks(seed, trace) && compare_harvests(seed, trace);
+    verdict(all_same && compare_scripts(seed, trace))
 }
 
 fn verdict(all_same: bool) -> ExitCode {

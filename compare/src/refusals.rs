@@ -2,6 +2,7 @@
 //! call looks at them. That order stands here and nowhere else.
 
 use crate::geometry::{GREATEST_T, LEAST_T, PHYSICAL_LIMIT};
+use crate::harvest::{pages_of, Harvest, MOST_PAGES};
 use crate::reference::{
     is_device, is_multiple, offset_in_memory, Access, Kind, Regime, MEMORY_LIMIT, POOL_LIMIT,
 };
@@ -14,6 +15,10 @@ pub const STORE: &[u8] = &[9, 1, 8];
 /// The start of a walk a descriptor at a time; and an offer to one that has
 /// not ended (RULES 16.6).
 pub const STEPWISE: &[u8] = &[3, 4, 5, 13, 6, 7];
+
+/// A plain harvest; and one in a session.
+pub const HARVEST: &[u8] = &[1, 2, 3, 4, 5, 13, 10, 11];
+pub const SESSION_HARVEST: &[u8] = &[9, 1, 2, 3, 4, 5, 13, 10, 11];
 
 /// Whether a call looks at one of its rows before another.
 pub fn is_before(order: &[u8], row: u8, other: u8) -> bool {
@@ -41,6 +46,7 @@ struct Asked<'a> {
     access: Option<&'a Access>,
     /// The address of a store.
     store: Option<u64>,
+    harvest: Option<&'a Harvest>,
 }
 
 impl<'a> Asked<'a> {
@@ -51,6 +57,7 @@ impl<'a> Asked<'a> {
             regime: None,
             access: None,
             store: None,
+            harvest: None,
         }
     }
 
@@ -65,6 +72,15 @@ impl<'a> Asked<'a> {
     fn set_regime(memory_length: usize, regime: &'a Regime) -> Self {
         Asked {
             regime: Some(regime),
+            ..Asked::over(memory_length)
+        }
+    }
+
+    /// In a session the regime is the one that it has.
+    fn harvest(memory_length: usize, regime: Option<&'a Regime>, harvest: &'a Harvest) -> Self {
+        Asked {
+            regime,
+            harvest: Some(harvest),
             ..Asked::over(memory_length)
         }
     }
@@ -93,6 +109,8 @@ impl<'a> Asked<'a> {
             7 => with_regime(&|regime| self.access.is_some_and(|access| row_7(regime, access))),
             8 => with_regime(&|regime| self.store.is_some_and(|store| row_8(regime, store))),
             9 => self.regime.is_none(),
+            10 => with_regime(&|regime| self.harvest.is_some_and(|asked| row_10(regime, asked))),
+            11 => self.harvest.is_some_and(row_11),
             13 => of_regime(row_13),
             _ => panic!("there is no row {row}"),
         }
@@ -148,6 +166,37 @@ pub fn of_store(memory_length: usize, regime: Option<&Regime>, address: u64) -> 
         ..Asked::over(memory_length)
     };
     asked.first_of(STORE)
+}
+
+pub fn of_harvest(memory_length: usize, regime: &Regime, asked: &Harvest) -> Option<u8> {
+    all_of_harvest(memory_length, regime, asked).next()
+}
+
+/// All rows that apply to a plain harvest; the first is its refusal.
+pub fn all_of_harvest<'a>(
+    memory_length: usize,
+    regime: &'a Regime,
+    asked: &'a Harvest,
+) -> impl Iterator<Item = u8> + 'a {
+    Asked::harvest(memory_length, Some(regime), asked).all_of(HARVEST)
+}
+
+/// In a session, by the regime that it has.
+pub fn of_session_harvest(
+    memory_length: usize,
+    regime: Option<&Regime>,
+    asked: &Harvest,
+) -> Option<u8> {
+    all_of_session_harvest(memory_length, regime, asked).next()
+}
+
+/// All rows that apply to it; the first is its refusal.
+pub fn all_of_session_harvest<'a>(
+    memory_length: usize,
+    regime: Option<&'a Regime>,
+    asked: &'a Harvest,
+) -> impl Iterator<Item = u8> + 'a {
+    Asked::harvest(memory_length, regime, asked).all_of(SESSION_HARVEST)
 }
 
 /// Whether a session's regime is one of those that no walk can begin with
@@ -221,6 +270,22 @@ fn row_7(regime: &Regime, access: &Access) -> bool {
 /// A store's address.
 fn row_8(regime: &Regime, address: u64) -> bool {
     address & 7 != 0 || offset_in_memory(&regime.pool, address).is_none()
+}
+
+/// A first page in a range, and a number of pages that do not pass its end.
+fn row_10(regime: &Regime, asked: &Harvest) -> bool {
+    let first = u128::from(asked.first);
+    let end = first + u128::from(asked.count);
+    let fits = |range| {
+        let pages = pages_of(regime, range);
+        pages.contains(&first) && end <= pages.end
+    };
+    !(1..=MOST_PAGES).contains(&asked.count) || !(0..2).any(fits)
+}
+
+/// A bit for each page.
+fn row_11(asked: &Harvest) -> bool {
+    asked.bytes() > asked.room as u64
 }
 
 /// Dirty state management without that of the Access flag.

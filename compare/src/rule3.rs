@@ -1,9 +1,10 @@
 //! Rule 3 (RULES 11) as a claim about a list of calls and replies. Nothing
 //! here looks into a session: what it remembers is read off its replies.
 
-use crate::boundary::{plain_answer, CAnswer, Reply, REFUSED};
+use crate::boundary::{plain_answer, CAnswer, Reply, REFUSED, SUCCESS};
 use crate::geometry::Granule;
-use crate::reference::{look, offset_in_memory, walk, write_descriptor, Access, Regime};
+use crate::harvest::{harvest_on, Harvest};
+use crate::reference::{bit, look, offset_in_memory, walk, write_descriptor, Access, Regime, DBM};
 use crate::refusals;
 use crate::session::{page_of, place_of, Call};
 
@@ -31,10 +32,14 @@ impl Event {
         matches!(self.call, Call::Store { .. }) && self.is_accepted()
     }
 
-    /// An accepted set regime or a drop all.
+    pub fn is_accepted_harvest(&self) -> bool {
+        matches!(self.call, Call::Harvest(_)) && self.is_accepted()
+    }
+
+    /// An accepted set regime or harvest, or a drop all.
     pub fn is_emptying(&self) -> bool {
         match self.call {
-            Call::SetRegime(_) => self.is_accepted(),
+            Call::SetRegime(_) | Call::Harvest(_) => self.is_accepted(),
             Call::DropAll => true,
             _ => false,
         }
@@ -79,6 +84,8 @@ pub struct History {
     events: Vec<Event>,
     /// The memory at first, and after each change of it.
     memories: Vec<Vec<u8>>,
+    /// For each event the map that it left, where it had one.
+    maps: Vec<Vec<u8>>,
 }
 
 impl History {
@@ -86,6 +93,7 @@ impl History {
         History {
             events: Vec::new(),
             memories: vec![memory.to_vec()],
+            maps: Vec::new(),
         }
     }
 
@@ -93,8 +101,8 @@ impl History {
         &self.events
     }
 
-    /// Puts a call on the list, with the memory as it was left.
-    pub fn record(&mut self, call: Call, reply: Reply, lent: usize, memory: &[u8]) {
+    /// Puts a call on the list, with memory and map as they were left.
+    pub fn record(&mut self, call: Call, reply: Reply, lent: usize, memory: &[u8], map: &[u8]) {
         let found = self.memories.len() - 1;
         if self.memories[found] != memory {
             self.memories.push(memory.to_vec());
@@ -106,6 +114,7 @@ impl History {
             found,
             left: self.memories.len() - 1,
         });
+        self.maps.push(map.to_vec());
     }
 
     /// The memory as an event found it.
@@ -133,70 +142,114 @@ impl History {
     /// Rule 3 for one event, by those before it. Says all that is broken.
     pub fn check(&self, at: usize) -> Result<Checked, Vec<String>> {
         let event = &self.events[at];
-        let past = self.before(at);
-        let mut checked = Checked::default();
-        let mut broken = Vec::new();
-        let mut demand = |holds: bool, words: &str| {
-            if !holds {
-                broken.push(format!("rule 3: {words}"));
-            }
+        let mut check = Check {
+            past: self.before(at),
+            event,
+            left: self.left(event),
+            map: &self.maps[at],
+            memory: self.found(event).to_vec(),
+            checked: Checked::default(),
+            broken: Vec::new(),
         };
-
-        // What is left alone, and when there is a refusal.
-        let mut memory = self.found(event).to_vec();
         match (event.call, event.reply) {
             (Call::SetRegime(regime), Reply::Changed(number)) => {
                 let wanted = refusals::of_set_regime(event.lent, &regime).unwrap_or(0);
-                demand(number == wanted, "set regime is refused wrongly");
+                check.demand(number == wanted, "set regime is refused wrongly");
             }
             (Call::Store { address, value }, Reply::Changed(number)) => {
-                let regime = past.regime();
-                let wanted = refusals::of_store(event.lent, regime.as_ref(), address).unwrap_or(0);
-                demand(number == wanted, "a store is refused wrongly");
-                if let (0, Some(regime)) = (number, regime) {
-                    match offset_in_memory(&regime.pool, address) {
-                        Some(at) => write_descriptor(&mut memory, at, value, regime.ee),
-                        None => demand(false, "a store beside the pool is accepted"),
-                    }
-                }
+                check.store(address, value, number);
             }
             (Call::DropAll, Reply::Dropped) => {}
-            (Call::Access(access), Reply::Answered(answer)) => {
-                if let Some((wanted, bytes)) = past.first_half(&access, &memory, event.lent) {
-                    checked.first_half = true;
-                    let without_count = CAnswer { reads: 0, ..answer };
-                    demand(
-                        without_count == wanted,
-                        "first half: not the plain walk's answer",
-                    );
-                    demand(
-                        self.left(event) == bytes,
-                        "first half: not the plain walk's bytes",
-                    );
-                }
-                match past.promise(&access, &mut memory[..event.lent]) {
-                    Ok(Some((class, wanted))) => {
-                        checked.class = Some(class);
-                        let words = format!("second half, {class:?}: another answer is promised");
-                        demand(answer == wanted, &words);
-                    }
-                    // Its bytes are not promised either.
-                    Ok(None) => memory.copy_from_slice(self.left(event)),
-                    Err(words) => demand(false, words),
-                }
-                demand(
-                    answer.tag != REFUSED || event.found == event.left,
-                    "a refused access changed the memory",
-                );
-            }
-            _ => demand(false, "the reply is one to another call"),
+            (Call::Access(access), Reply::Answered(answer)) => check.access(&access, answer),
+            (Call::Harvest(asked), Reply::Changed(number)) => check.harvest(&asked, number),
+            _ => check.demand(false, "the reply is one to another call"),
         }
-        demand(self.left(event) == memory, "other bytes are promised");
-        if broken.is_empty() {
-            Ok(checked)
+        check.demand(check.left == check.memory, "other bytes are promised");
+        if check.broken.is_empty() {
+            Ok(check.checked)
         } else {
-            Err(broken)
+            Err(check.broken)
         }
+    }
+}
+
+/// The check of one event.
+struct Check<'a> {
+    past: Past<'a>,
+    event: &'a Event,
+    /// The memory and the map as the event left them.
+    left: &'a [u8],
+    map: &'a [u8],
+    /// The memory as the event found it; then as it must leave it.
+    memory: Vec<u8>,
+    checked: Checked,
+    broken: Vec<String>,
+}
+
+impl Check<'_> {
+    fn demand(&mut self, holds: bool, words: &str) {
+        if !holds {
+            self.broken.push(format!("rule 3: {words}"));
+        }
+    }
+
+    fn store(&mut self, address: u64, value: u64, number: u8) {
+        let regime = self.past.regime();
+        let wanted = refusals::of_store(self.event.lent, regime.as_ref(), address).unwrap_or(0);
+        self.demand(number == wanted, "a store is refused wrongly");
+        if let (0, Some(regime)) = (number, regime) {
+            match offset_in_memory(&regime.pool, address) {
+                Some(at) => write_descriptor(&mut self.memory, at, value, regime.ee),
+                None => self.demand(false, "a store beside the pool is accepted"),
+            }
+        }
+    }
+
+    fn access(&mut self, access: &Access, answer: CAnswer) {
+        let lent = self.event.lent;
+        if let Some((wanted, bytes)) = self.past.first_half(access, &self.memory, lent) {
+            self.checked.first_half = true;
+            let without_count = CAnswer { reads: 0, ..answer };
+            self.demand(
+                without_count == wanted,
+                "first half: not the plain walk's answer",
+            );
+            self.demand(self.left == bytes, "first half: not the plain walk's bytes");
+        }
+        match self.past.promise(access, &mut self.memory[..lent]) {
+            Ok(Some((class, wanted))) => {
+                self.checked.class = Some(class);
+                let words = format!("second half, {class:?}: another answer is promised");
+                self.demand(answer == wanted, &words);
+            }
+            // Its bytes are not promised either.
+            Ok(None) => self.memory.copy_from_slice(self.left),
+            Err(words) => self.demand(false, words),
+        }
+        self.demand(
+            answer.tag != REFUSED || self.event.found == self.event.left,
+            "a refused access changed the memory",
+        );
+    }
+
+    fn harvest(&mut self, asked: &Harvest, number: u8) {
+        let (regime, lent) = (self.past.regime(), self.event.lent);
+        let refusal = refusals::of_session_harvest(lent, regime.as_ref(), asked);
+        self.demand(
+            number == refusal.unwrap_or(0),
+            "a harvest is refused wrongly",
+        );
+        let mut map = asked.map();
+        if let (None, Some(regime)) = (refusal, regime) {
+            harvest_on(&mut self.memory[..lent], &regime, asked, &mut map);
+            let is_told = |(page, _): &(u64, usize)| {
+                let number = (page - asked.first) as usize;
+                self.map[number / 8] >> (number % 8) & 1 == 1
+            };
+            let all_told = self.past.owed(asked).iter().all(is_told);
+            self.demand(all_told, "a written page is not reported");
+        }
+        self.demand(self.map == map, "another map is promised");
     }
 }
 
@@ -276,6 +329,43 @@ impl<'a> Past<'a> {
         walks.next().map(|(at, ..)| at)
     }
 
+    /// Whether a store was accepted since the last emptying.
+    fn asks_for_a_drop(&self) -> bool {
+        let since = &self.events[self.since_emptying()];
+        since.iter().any(Event::is_accepted_store)
+    }
+
+    /// The pages that a harvest of this moment must report, and the event of
+    /// each that wrote it: a write or update that succeeded on a leaf with DBM,
+    /// since the last accepted store, regime and harvest, and with a drop
+    /// between it and every accepted store before it.
+    pub fn owed(&self, asked: &Harvest) -> Vec<(u64, usize)> {
+        let ends = |event: &Event| {
+            let set = matches!(event.call, Call::SetRegime(_)) && event.is_accepted();
+            set || event.is_accepted_store() || event.is_accepted_harvest()
+        };
+        let last = self.events.iter().rposition(ends);
+        let since = last.map_or(0, |at| at + 1)..self.events.len();
+        let wrote = since.filter_map(|at| self.written(at).map(|page| (page, at)));
+        let is_asked = |page: u64| page >= asked.first && page - asked.first < asked.count;
+        wrote.filter(|(page, _)| is_asked(*page)).collect()
+    }
+
+    /// The page that an event wrote on a leaf with DBM, where no drop was asked
+    /// for before it.
+    fn written(&self, at: usize) -> Option<u64> {
+        let event = &self.events[at];
+        let (Call::Access(access), Reply::Answered(answer)) = (event.call, event.reply) else {
+            return None;
+        };
+        let past = self.history.before(at);
+        let wrote = access.kind.changes_data() && answer.tag == SUCCESS;
+        let regime = past.regime().filter(|_| wrote && !past.asks_for_a_drop())?;
+        let left = &self.history.left(event)[..event.lent];
+        let (leaf, _) = look(left, &regime, &access).leaf?;
+        bit(leaf.descriptor, DBM).then(|| page_of(regime.granule, access.address))
+    }
+
     /// RULES 11.2: the plain walk of this moment, its count put to 0, and the
     /// bytes it leaves; nothing where a store came after the last emptying, or
     /// before any regime.
@@ -286,8 +376,7 @@ impl<'a> Past<'a> {
         lent: usize,
     ) -> Option<(CAnswer, Vec<u8>)> {
         let regime = self.regime()?;
-        let since = &self.events[self.since_emptying()];
-        if since.iter().any(Event::is_accepted_store) {
+        if self.asks_for_a_drop() {
             return None;
         }
         let mut bytes = memory.to_vec();

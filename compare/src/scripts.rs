@@ -4,6 +4,7 @@ mod calls;
 mod features;
 mod foreign;
 mod granules;
+mod harvests;
 mod opening;
 mod orders;
 mod play;
@@ -14,7 +15,6 @@ use crate::boundary::{Spelling, Subject};
 use crate::random::Random;
 use crate::session::Call;
 use calls::Script;
-pub(crate) use play::Arena;
 use play::Play;
 pub use tally::Tally;
 

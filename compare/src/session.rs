@@ -2,6 +2,7 @@
 //! of the second walker. A place is what RULES calls an entry.
 
 use crate::geometry::Granule;
+use crate::harvest::{harvest_on, Harvest};
 use crate::reference::{
     offset_in_memory, read_descriptor, settle, walk_on, write_descriptor, Access, Answer, Leaf,
     Regime, Walk,
@@ -32,6 +33,17 @@ pub enum Call {
     Access(Access),
     Store { address: u64, value: u64 },
     DropAll,
+    Harvest(Harvest),
+}
+
+impl Call {
+    /// The map as it is lent; none, where the call has none.
+    pub fn map(&self) -> Vec<u8> {
+        match self {
+            Call::Harvest(asked) => asked.map(),
+            _ => Vec::new(),
+        }
+    }
 }
 
 /// What a place holds: a page, and its leaf as the walk left it, with what the
@@ -126,6 +138,19 @@ impl Session {
         };
         let offset = offset_in_memory(&regime.pool, address).expect("row 8 does not apply");
         write_descriptor(memory, offset, value, regime.ee);
+        None
+    }
+
+    /// The refusal, if there is one. Where there is none, every place is empty
+    /// afterwards.
+    pub fn harvest(&mut self, memory: &mut [u8], asked: &Harvest, map: &mut [u8]) -> Option<u8> {
+        let refusal = refusals::of_session_harvest(memory.len(), self.regime.as_ref(), asked);
+        let regime = match self.go_on(refusal) {
+            Ok(regime) => regime,
+            Err(number) => return Some(number),
+        };
+        harvest_on(memory, &regime, asked, map);
+        self.drop_all();
         None
     }
 

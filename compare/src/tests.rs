@@ -2,6 +2,7 @@
 //! check that the cases meet all they should.
 
 mod granules;
+mod harvest;
 mod limits;
 mod orders;
 mod refusals;

@@ -1,6 +1,8 @@
-//! The two kinds of address.
+//! The two kinds of address, and the numbers of the guest's pages.
 
 use std::fmt;
+
+use crate::Granule;
 
 /// A physical address: of the pool, a table, a descriptor or an output.
 ///
@@ -30,17 +32,47 @@ pub struct PhysAddr(pub u64);
 #[derive(Clone, Copy, Default, PartialEq, Eq, PartialOrd, Ord, Hash)]
 pub struct VirtAddr(pub u64);
 
-macro_rules! address {
+/// The number of a page of the guest: its address divided by the granule, which
+/// is address bits 63 down to 12, 14 or 16.
+///
+/// It counts guest addresses, and is no frame number. The pages of range 1 have
+/// large numbers.
+///
+/// ```
+/// use vmsa::{Granule, VirtAddr, VirtPage};
+///
+/// let page = VirtAddr(0xffff_0000_0040_3abc).page(Granule::Kib4);
+/// assert_eq!(page, VirtPage(0xf_fff0_0000_0403));
+/// assert_eq!(page.address(Granule::Kib4), VirtAddr(0xffff_0000_0040_3000));
+/// ```
+#[derive(Clone, Copy, Default, PartialEq, Eq, PartialOrd, Ord, Hash)]
+pub struct VirtPage(pub u64);
+
+impl VirtAddr {
+    /// The page that the address lies in.
+    pub const fn page(self, granule: Granule) -> VirtPage {
+        VirtPage(self.0 >> granule.page_bits())
+    }
+}
+
+impl VirtPage {
+    /// The first address of the page, modulo 2^64.
+    pub const fn address(self, granule: Granule) -> VirtAddr {
+        VirtAddr(self.0 << granule.page_bits())
+    }
+}
+
+macro_rules! number {
     ($name:ident) => {
         impl From<u64> for $name {
-            fn from(address: u64) -> Self {
-                Self(address)
+            fn from(number: u64) -> Self {
+                Self(number)
             }
         }
 
         impl From<$name> for u64 {
-            fn from(address: $name) -> Self {
-                address.0
+            fn from(number: $name) -> Self {
+                number.0
             }
         }
 
@@ -70,5 +102,6 @@ macro_rules! address {
     };
 }
 
-address!(PhysAddr);
-address!(VirtAddr);
+number!(PhysAddr);
+number!(VirtAddr);
+number!(VirtPage);

@@ -272,7 +272,8 @@ impl From<ffi::Answer> for Answer {
     }
 }
 
-/// What a set regime or a store gives: 0, or the number of the refusal.
+/// What a set regime, a store or a harvest gives: 0, or the number of the
+/// refusal.
 pub(crate) fn accepted(number: u8) -> Result<(), Refusal> {
     match number {
         0 => Ok(()),

@@ -4,8 +4,8 @@
 //! refusal, its causes in the order of `docs/RULES.md`, 5.1.
 
 use crate::{
-    Access, AccessKind, Granule, PhysAddr, Pool, Problem, Regime, VirtAddr, MEMORY_LIMIT,
-    POOL_LIMIT,
+    Access, AccessKind, Granule, Pages, PhysAddr, Pool, Problem, Regime, VirtAddr, VirtPage,
+    HARVEST_LIMIT, MEMORY_LIMIT, POOL_LIMIT,
 };
 
 /// Physical addresses lie below this.
@@ -36,6 +36,13 @@ pub(crate) fn of_start(regime: &Regime) -> Checked {
 pub(crate) fn of_access(granule: Granule, access: &Access) -> Checked {
     access_size(access)?;
     page_crossing(granule, access)
+}
+
+/// What the pages and the map of a harvest are checked for under a regime, in
+/// its order.
+pub(crate) fn of_harvest(regime: &Regime, pages: Pages, map: usize) -> Checked {
+    page_range(regime, pages)?;
+    map_length(pages, map)
 }
 
 /// Refusal 1.
@@ -147,6 +154,47 @@ fn page_crossing(granule: Granule, access: &Access) -> Checked {
             last,
             granule,
         });
+    }
+    Ok(())
+}
+
+/// Refusal 10.
+fn page_range(regime: &Regime, pages: Pages) -> Checked {
+    let Pages { first, count } = pages;
+    let Some((range, end)) = range_of(regime, first) else {
+        return Err(Problem::FirstPageOutside { first });
+    };
+    if count == 0 {
+        return Err(Problem::NoPages);
+    }
+    if count > HARVEST_LIMIT {
+        return Err(Problem::TooManyPages { count });
+    }
+    let last = VirtPage(first.0 + (count - 1));
+    if last > end {
+        return Err(Problem::PagesPastRange { range, last, end });
+    }
+    Ok(())
+}
+
+/// The range that a page lies in, disabled or not, and the last page there.
+fn range_of(regime: &Regime, page: VirtPage) -> Option<(u8, VirtPage)> {
+    let all = 1_u64 << (64 - regime.granule.page_bits());
+    // None for a T of 64 and more, which is refused.
+    let pages = |tsz: u8| all.checked_shr(tsz.into()).unwrap_or(0);
+    let (lower, upper) = (pages(regime.range0.tsz), pages(regime.range1.tsz));
+    if page.0 < lower {
+        return Some((0, VirtPage(lower - 1)));
+    }
+    (all - upper..all)
+        .contains(&page.0)
+        .then_some((1, VirtPage(all - 1)))
+}
+
+/// Refusal 11.
+fn map_length(pages: Pages, length: usize) -> Checked {
+    if length < pages.map_length() {
+        return Err(Problem::MapTooShort { length, pages });
     }
     Ok(())
 }

@@ -175,6 +175,24 @@ extern "C" {
         value: u64,
     ) -> u8;
     fn vmsa_session_invalidate_all(session: *mut Session);
+    fn vmsa_harvest(
+        memory: *mut u8,
+        length: usize,
+        regime: *const Regime,
+        first: u64,
+        count: u64,
+        map: *mut u8,
+        map_length: usize,
+    ) -> u8;
+    fn vmsa_session_harvest(
+        session: *mut Session,
+        memory: *mut u8,
+        length: usize,
+        first: u64,
+        count: u64,
+        map: *mut u8,
+        map_length: usize,
+    ) -> u8;
     fn vmsa_stepwise_start(regime: *const Regime, access: *const Access, walk: *mut Stepwise);
     fn vmsa_stepwise_value(walk: *mut Stepwise, value: u64) -> u8;
     fn vmsa_stepwise_unreachable(walk: *mut Stepwise) -> u8;
@@ -182,7 +200,7 @@ extern "C" {
 
 // What makes each call below sound: the structs have the library's layout (the
 // asserts above), a slice is a pointer and its length, and the library takes
-// any value, stays inside the slice and the structs, writes none that is lent
+// any value, stays inside the slices and the structs, writes none that is lent
 // as `*const`, and keeps no pointer. An answer, the fresh session and the start
 // of a stepwise walk it only writes, and every byte of it; any bytes are one.
 
@@ -248,6 +266,43 @@ pub fn session_store(session: &mut Session, memory: &mut [u8], address: u64, val
 pub fn session_invalidate_all(session: &mut Session) {
     // SAFETY: the session is lent to this call alone.
     unsafe { vmsa_session_invalidate_all(session) }
+}
+
+pub fn harvest(memory: &mut [u8], regime: &Regime, first: u64, count: u64, map: &mut [u8]) -> u8 {
+    // SAFETY: as for `walk`; the map is a slice too, and being lent as `&mut`
+    // overlaps nothing.
+    unsafe {
+        vmsa_harvest(
+            memory.as_mut_ptr(),
+            memory.len(),
+            regime,
+            first,
+            count,
+            map.as_mut_ptr(),
+            map.len(),
+        )
+    }
+}
+
+pub fn session_harvest(
+    session: &mut Session,
+    memory: &mut [u8],
+    first: u64,
+    count: u64,
+    map: &mut [u8],
+) -> u8 {
+    // SAFETY: as for `harvest`; the session is lent to this call alone.
+    unsafe {
+        vmsa_session_harvest(
+            session,
+            memory.as_mut_ptr(),
+            memory.len(),
+            first,
+            count,
+            map.as_mut_ptr(),
+            map.len(),
+        )
+    }
 }
 
 pub fn stepwise_start(regime: &Regime, access: &Access) -> Stepwise {

@@ -7,8 +7,9 @@
 //! be lent, a [`StepwiseWalk`](#a-descriptor-at-a-time). The walk obeys the
 //! guest's permissions, sets the Access flag and marks written pages dirty,
 //! as the hardware would, for a guest that uses none of the features
-//! [below](#what-a-guest-must-not-use). The work is done by a proved library
-//! with a C interface; this crate is its safe form.
+//! [below](#what-a-guest-must-not-use). A [harvest](#dirty-pages) says which
+//! pages are marked, and makes them clean again, for a migration say. The work
+//! is done by a proved library with a C interface; this crate is its safe form.
 //!
 //! The caller lends a memory. The guest's tables lie in a part of it, the
 //! [`Pool`]; no byte outside the pool is changed or has a say in any answer.
@@ -91,13 +92,83 @@
 //! [`StepwiseWalk`] shows the same by hand, step by step, and [`Ended::settle`]
 //! the update where others write the tables too.
 //!
+//! # Dirty pages
+//!
+//! [`Session::harvest`] fills a map of bits: which of up to [`HARVEST_LIMIT`]
+//! [`Pages`] are marked dirty. Those pages are then clean again, so that the
+//! next write marks them again. [`harvest()`] does the same with no session.
+//!
+//! It reports the pages whose leaf is marked dirty, and nothing else. **A
+//! written page is lost where a monitor forgets one of these:**
+//!
+//! 1. A page that was written and whose Access flag the guest has cleared since
+//!    is **not** reported; nor is one that it has made clean or unmapped itself.
+//!    With a guest that ages its pages, harvest before it does, or take every
+//!    leaf with DBM set, AP\[2\] clear and the Access flag clear for dirty
+//!    yourself.
+//! 2. [`harvest()`] over a pool that a session has translations of **loses
+//!    marks**: an entry still holds the leaf as dirty and answers the next
+//!    write, which makes no new mark. Use [`Session::harvest`], or else call
+//!    [`Session::invalidate_all`] at once, before the next access. Either
+//!    empties one session: empty every other one that uses this pool, and throw
+//!    away a [`StepwiseWalk`] that is under way.
+//! 3. A page that is writable without DBM (DBM clear, AP\[2\] clear) is
+//!    **never** reported. Take it for dirty always, or have the guest use DBM.
+//! 4. Copy a page **after** the harvest that reports it. Where vCPUs run,
+//!    invalidate their TLBs in between: they may hold the page as dirty, and
+//!    write it without a mark. And carry out, before the copy, each write whose
+//!    access was answered before the harvest.
+//! 5. Two addresses share a leaf where two entries lead to one table. A harvest
+//!    of both reports both. A harvest of one alone makes the leaf clean, and a
+//!    later harvest of the other does not report it: ask for both at once, or go
+//!    by the addresses that the pages lead to.
+//!
+//! A page that is reported is one of guest addresses. Where it leads to, a probe
+//! says:
+//!
+//! ```
+//! use vmsa::{Access, Granule, Pages, PhysAddr, Session, Stop};
+//!
+//! /// Where the pages lie that were written since the last call.
+//! fn written(session: &mut Session, tables: &mut [u8], pages: Pages) -> Result<Vec<PhysAddr>, Stop> {
+//!     let mut map = vec![0; pages.map_length()];
+//!     session.harvest(tables, pages, &mut map)?;
+//!     pages
+//!         .dirty(&map)
+//!         .map(|page| Access::probe_read(page.address(Granule::Kib4)))
+//!         .map(|probe| Ok(session.access(tables, &probe)?.output))
+//!         .collect()
+//! }
+//! # let mut tables = vec![0; 0x1000];
+//! # tables[8..16].copy_from_slice(&0x0008_0000_8020_0781_u64.to_le_bytes());
+//! # let root = PhysAddr(0x4000_0000);
+//! # let regime = vmsa::Regime::new()
+//! #     .pool(vmsa::Pool::new(0, 0x1000, root))
+//! #     .range0(vmsa::Range::new(root, 39))
+//! #     .ha(true)
+//! #     .hd(true)
+//! #     .attributes([0xff; 8]);
+//! # let mut session = Session::new();
+//! # session.set_regime(&tables, &regime)?;
+//! # let write = Access::write(vmsa::VirtAddr(0x21_2340), 8);
+//! # session.access(&mut tables, &write)?;
+//! # let pages = Pages::new(vmsa::VirtPage(0x210), 4);
+//! # let outputs = [0x8021_0000, 0x8021_1000, 0x8021_2000, 0x8021_3000].map(PhysAddr);
+//! # assert_eq!(written(&mut session, &mut tables, pages)?, outputs);
+//! # let pages = Pages::new(vmsa::VirtPage(0), 0x2000);
+//! # assert_eq!(written(&mut session, &mut tables, pages)?.len(), 512);
+//! # assert_eq!(written(&mut session, &mut tables, pages)?, []);
+//! # Ok::<(), Stop>(())
+//! ```
+//!
 //! # Limits
 //!
-//! A memory has at most [`MEMORY_LIMIT`] bytes, and its pool at most
-//! [`POOL_LIMIT`]. Lend the pool, not the guest's RAM: the memory may be the
-//! pool and nothing else. A stepwise walk has neither, and so no such limit.
-//! What a regime or an access is refused for, [`Regime::check`],
-//! [`Regime::check_stepwise`] and [`Access::check`] say in words.
+//! A memory has at most [`MEMORY_LIMIT`] bytes, its pool at most [`POOL_LIMIT`],
+//! and a harvest at most [`HARVEST_LIMIT`] pages. Lend the pool, not the guest's
+//! RAM: the memory may be the pool and nothing else. A stepwise walk has neither
+//! memory nor pool, and so no such limit. What a regime, an access or a harvest
+//! is refused for, [`Regime::check`], [`Regime::check_stepwise`],
+//! [`Access::check`] and [`Pages::check`] say in words.
 //!
 //! # What a guest must not use
 //!
@@ -143,6 +214,10 @@
 //!   empty it, and ask again.
 //! - It walks a descriptor at a time, each read by an aligned load. This needs
 //!   no copy, and [`Ended::settle`] makes the compare-and-swap; nothing is held.
+//!
+//! A harvest changes many descriptors. Over a copy of the pool each change is
+//! made by a compare-and-swap of its own; where one fails the leaf stays as it
+//! is, and if it is dirty the next harvest reports it.
 //!
 //! The second of them, with a session:
 //!
@@ -196,6 +271,7 @@ mod answer;
 mod check;
 mod ffi;
 mod granule;
+mod harvest;
 mod problem;
 mod refusal;
 mod regime;
@@ -203,9 +279,10 @@ mod session;
 mod stepwise;
 
 pub use access::{Access, AccessKind, ExceptionLevel};
-pub use address::{PhysAddr, VirtAddr};
+pub use address::{PhysAddr, VirtAddr, VirtPage};
 pub use answer::{Answer, Fault, FaultKind, Shareability, Stop, Translation};
 pub use granule::Granule;
+pub use harvest::{harvest, DirtyPages, Pages};
 pub use problem::Problem;
 pub use refusal::Refusal;
 pub use regime::{OutputSize, Pool, Range, Regime};
@@ -219,8 +296,11 @@ pub const MEMORY_LIMIT: usize = 16_777_216;
 /// 64 KiB. The last descriptor of such a pool is at offset `POOL_LIMIT - 8`.
 pub const POOL_LIMIT: usize = 1_048_576;
 
+/// The most pages of a harvest.
+pub const HARVEST_LIMIT: u64 = 65_536;
+
 /// The version of the C interface that this crate speaks.
-pub const VERSION: u32 = 10;
+pub const VERSION: u32 = 11;
 
 /// The version of the library that is linked in; to be [`VERSION`].
 pub fn version() -> u32 {

@@ -1,16 +1,19 @@
-//! Refusals in words: what a regime or an access is refused for.
+//! Refusals in words: what a regime, an access or a harvest is refused for.
 
 use std::error::Error;
 use std::fmt;
 
 use crate::check::end;
-use crate::{Granule, PhysAddr, Refusal, VirtAddr, MEMORY_LIMIT, POOL_LIMIT};
+use crate::{
+    Granule, Pages, PhysAddr, Refusal, VirtAddr, VirtPage, HARVEST_LIMIT, MEMORY_LIMIT, POOL_LIMIT,
+};
 
 /// One cause of a refusal, with the value at fault.
 ///
 /// [`Regime::check`](crate::Regime::check),
-/// [`Regime::check_stepwise`](crate::Regime::check_stepwise) and
-/// [`Access::check`](crate::Access::check) find it, and its words name the
+/// [`Regime::check_stepwise`](crate::Regime::check_stepwise),
+/// [`Access::check`](crate::Access::check) and
+/// [`Pages::check`](crate::Pages::check) find it, and its words name the
 /// value and the limit. They stand beside the library, which decides: they are
 /// not proved, but tested to find a problem exactly where the library refuses,
 /// with the same number. Of several refusals they take the first, in the order
@@ -144,6 +147,34 @@ pub enum Problem {
         /// The regime's granule.
         granule: Granule,
     },
+    /// The first page of a harvest is in neither range.
+    FirstPageOutside {
+        /// The first page.
+        first: VirtPage,
+    },
+    /// The number of pages is 0.
+    NoPages,
+    /// There are more than [`HARVEST_LIMIT`] pages.
+    TooManyPages {
+        /// The number of pages.
+        count: u64,
+    },
+    /// The pages pass the end of the first one's range.
+    PagesPastRange {
+        /// The range, 0 or 1.
+        range: u8,
+        /// The last page that is asked for.
+        last: VirtPage,
+        /// The last page of the range.
+        end: VirtPage,
+    },
+    /// The map has fewer bits than there are pages.
+    MapTooShort {
+        /// Bytes of the map.
+        length: usize,
+        /// The pages.
+        pages: Pages,
+    },
 }
 
 impl Problem {
@@ -168,6 +199,11 @@ impl Problem {
             | Self::FetchUnaligned { .. }
             | Self::ProbeSize { .. } => Refusal::AccessSize,
             Self::PageCrossing { .. } => Refusal::PageCrossing,
+            Self::FirstPageOutside { .. }
+            | Self::NoPages
+            | Self::TooManyPages { .. }
+            | Self::PagesPastRange { .. } => Refusal::PageRange,
+            Self::MapTooShort { .. } => Refusal::MapLength,
         }
     }
 }
@@ -254,6 +290,24 @@ impl fmt::Display for Problem {
                 "the first byte, {first}, and the last, {last}, \
                  lie in different pages of {} bytes",
                 granule.bytes()
+            ),
+            Self::FirstPageOutside { first } => {
+                write!(f, "the first page, {first}, is in neither range")
+            }
+            Self::NoPages => f.write_str("the number of pages is 0"),
+            Self::TooManyPages { count } => write!(
+                f,
+                "the number of pages, {count}, is above its limit, {HARVEST_LIMIT}"
+            ),
+            Self::PagesPastRange { range, last, end } => write!(
+                f,
+                "the last page, {last}, is past that of range {range}, {end}"
+            ),
+            Self::MapTooShort { length, pages } => write!(
+                f,
+                "the map's length, {length}, is below {}, the bytes for {} pages",
+                pages.map_length(),
+                pages.count
             ),
         }
     }

@@ -44,7 +44,8 @@ macro_rules! refusals {
 }
 
 refusals! {
-    /// Why a call is refused. It then changes neither memory nor session.
+    /// Why a call is refused. It then changes neither memory nor session, nor
+    /// the map of a harvest.
     ///
     /// A call is refused with the first that applies, in its own order:
     ///
@@ -55,11 +56,13 @@ refusals! {
     /// | [`Session::access`](crate::Session::access) | 9, 1, 6, 7 |
     /// | [`Session::store`](crate::Session::store) | 9, 1, 8 |
     /// | [`Session::invalidate_all`](crate::Session::invalidate_all) | none |
+    /// | [`harvest`](crate::harvest()) | 1, 2, 3, 4, 5, 13, 10, 11 |
+    /// | [`Session::harvest`](crate::Session::harvest) | 9, 1, 2, 3, 4, 5, 13, 10, 11 |
     /// | [`StepwiseWalk::start`](crate::StepwiseWalk::start) | 3, 4, 5, 13, 6, 7 |
     ///
-    /// Most numbers stand for several causes: [`Regime::check`] and
-    /// [`Access::check`] tell them apart. `docs/RULES.md`, section 5, has all
-    /// of this.
+    /// Most numbers stand for several causes: [`Regime::check`],
+    /// [`Access::check`] and [`Pages::check`] tell them apart. `docs/RULES.md`,
+    /// section 5, has all of this.
     ///
     /// Later versions add numbers, so a match needs a wildcard arm. A library
     /// of this crate's [`VERSION`](crate::VERSION) gives no number but these;
@@ -67,6 +70,7 @@ refusals! {
     ///
     /// [`Regime::check`]: crate::Regime::check
     /// [`Access::check`]: crate::Access::check
+    /// [`Pages::check`]: crate::Pages::check
     ///
     /// ```
     /// use vmsa::Refusal;
@@ -82,6 +86,7 @@ refusals! {
     ///     match refusal {
     ///         Refusal::AccessSize | Refusal::PageCrossing => "access",
     ///         Refusal::StoreAddress => "store",
+    ///         Refusal::PageRange | Refusal::MapLength => "harvest",
     ///         Refusal::NoRegime => "order of calls",
     ///         _ => "regime or memory",
     ///     }
@@ -124,6 +129,14 @@ refusals! {
 
     /// 9: the session has no regime yet.
     NoRegime = 9: "the session has no regime";
+
+    /// 10: the first page of a harvest is in neither range; no pages, more than
+    /// [`HARVEST_LIMIT`](crate::HARVEST_LIMIT), or past the end of the first
+    /// page's range.
+    PageRange = 10: "the pages are none, too many, or not all in one range";
+
+    /// 11: the map of a harvest has fewer bits than there are pages.
+    MapLength = 11: "the map has fewer bits than there are pages";
 
     /// 12: something is offered to a stepwise walk that has ended. No call of
     /// this crate gives it, for such an offer does not compile: see

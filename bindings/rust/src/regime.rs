@@ -302,11 +302,11 @@ impl Regime {
     ///
     /// It holds for the tables of both ranges: for what a walk reads, for the
     /// marks that it makes, and for the bytes that a
-    /// [`store`](crate::Session::store) writes. What a monitor reads of the
-    /// tables itself, to find dirty pages say, is in this order too. It has no
-    /// say in a device's data, nor in the leaves that a session holds and the
-    /// values that a [`StepwiseWalk`](crate::StepwiseWalk) is offered: they are
-    /// numbers.
+    /// [`store`](crate::Session::store) and a [`harvest`](crate::harvest())
+    /// write. What a monitor reads of the tables itself is in this order too.
+    /// It has no say in a device's data, nor in the leaves that a session holds
+    /// and the values that a [`StepwiseWalk`](crate::StepwiseWalk) is offered:
+    /// they are numbers.
     ///
     /// ```
     /// use vmsa::{walk, Access, FaultKind, PhysAddr, Pool, Range, Regime, Stop, VirtAddr};

@@ -3,7 +3,7 @@
 use std::fmt;
 
 use crate::answer::accepted;
-use crate::{ffi, Access, Answer, PhysAddr, Refusal, Regime};
+use crate::{ffi, Access, Answer, Pages, PhysAddr, Refusal, Regime};
 
 /// A session: the regime last accepted, and 64 TLB entries.
 ///
@@ -15,7 +15,7 @@ use crate::{ffi, Access, Answer, PhysAddr, Refusal, Regime};
 /// walks again. Between a [`store`](Session::store) and the next access, call
 /// [`invalidate_all`](Session::invalidate_all): each access is then answered as
 /// by the plain [`walk`](crate::walk()) of that moment, its count of reads
-/// apart.
+/// apart. A [`harvest`](Session::harvest) is such a call itself.
 ///
 /// ```
 /// use vmsa::{Access, PhysAddr, Pool, Range, Regime, Session, Stop, VirtAddr};
@@ -42,10 +42,11 @@ use crate::{ffi, Access, Answer, PhysAddr, Refusal, Regime};
 /// assert_eq!(first.reads, 1);
 /// assert_eq!(session.access(&mut memory, &write)?.reads, 0);
 ///
-/// // Once the block is copied, it is made writable-clean again.
-/// session.store(&mut memory, root, 0x0008_0000_8020_0781)?;
+/// // What a store changes is seen once the entries are emptied.
+/// session.store(&mut memory, root, 0x0008_0000_8040_0781)?;
+/// assert_eq!(session.access(&mut memory, &write)?.output, first.output);
 /// session.invalidate_all();
-/// assert!(session.access(&mut memory, &write)?.dirtied);
+/// assert_eq!(session.access(&mut memory, &write)?.output, PhysAddr(0x8041_2340));
 /// # Ok::<(), Stop>(())
 /// ```
 #[derive(Clone, PartialEq, Eq)]
@@ -130,6 +131,69 @@ impl Session {
     /// Empties every entry, and changes nothing else.
     pub fn invalidate_all(&mut self) {
         ffi::session_invalidate_all(&mut self.words);
+    }
+
+    /// Harvests dirty pages as [`harvest`](crate::harvest()) does, under the
+    /// session's regime, and empties every entry; nothing else of the session
+    /// changes.
+    ///
+    /// So the next write of a page marks it again, and no
+    /// [`invalidate_all`](Self::invalidate_all) is needed. [Dirty
+    /// pages](crate#dirty-pages) has what else a monitor must do so that no
+    /// written page is lost.
+    ///
+    /// ```
+    /// use vmsa::{Access, Granule, Pages, PhysAddr, Pool, Range, Regime, Session, Stop, VirtAddr};
+    ///
+    /// // A table of level 3 whose pages 0 and 1 are writable-clean.
+    /// let mut memory = vec![0; 0x1_0000];
+    /// memory[..8].copy_from_slice(&0x0008_0000_8000_0783_u64.to_le_bytes());
+    /// memory[8..16].copy_from_slice(&0x0008_0000_8001_0783_u64.to_le_bytes());
+    ///
+    /// let root = PhysAddr(0x4000_0000);
+    /// let regime = Regime::new()
+    ///     .pool(Pool::new(0, 0x1_0000, root))
+    ///     .range0(Range::new(root, 39))
+    ///     .granule(Granule::Kib64)
+    ///     .ha(true)
+    ///     .hd(true)
+    ///     .attributes([0xff; 8]);
+    /// let mut session = Session::new();
+    /// session.set_regime(&memory, &regime)?;
+    ///
+    /// let address = VirtAddr(0x1_2340);
+    /// let page = address.page(Granule::Kib64);
+    /// let pages = Pages::new(VirtAddr(0).page(Granule::Kib64), 512);
+    /// let mut map = vec![0; pages.map_length()];
+    ///
+    /// for _ in 0..2 {
+    ///     assert!(session.access(&mut memory, &Access::write(address, 8))?.dirtied);
+    ///     assert_eq!(session.access(&mut memory, &Access::write(address, 8))?.reads, 0);
+    ///
+    ///     // Each round reports the page; now it is time to copy it.
+    ///     session.harvest(&mut memory, pages, &mut map)?;
+    ///     assert!(pages.dirty(&map).eq([page]));
+    /// }
+    /// # Ok::<(), Stop>(())
+    /// ```
+    ///
+    /// # Errors
+    ///
+    /// A [`Refusal`], which has the order of the checks. It changes neither
+    /// memory nor map nor session. [`Pages::check`] names the cause.
+    pub fn harvest(
+        &mut self,
+        memory: &mut [u8],
+        pages: Pages,
+        map: &mut [u8],
+    ) -> Result<(), Refusal> {
+        accepted(ffi::session_harvest(
+            &mut self.words,
+            memory,
+            pages.first.0,
+            pages.count,
+            map,
+        ))
     }
 }
 

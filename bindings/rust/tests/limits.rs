@@ -1,13 +1,13 @@
-//! The largest pool in the largest memory: walked and marked up to its last
-//! descriptor, and no further, in both byte orders; one step more of either is
-//! refused.
+//! The largest pool in the largest memory: walked, marked and harvested up to
+//! its last descriptor, and no further, in both byte orders; one step more of
+//! either is refused.
 
 mod tables;
 
-use tables::{get, put, regime, walk, Both, CLEAN, EXTERNAL_ABORT, POOL};
+use tables::{get, harvest, put, regime, walk, Both, CLEAN, EXTERNAL_ABORT, POOL};
 use vmsa::{
-    Access, Answer, Granule, PhysAddr, Pool, Refusal, Regime, Session, Stop, VirtAddr,
-    MEMORY_LIMIT, POOL_LIMIT,
+    Access, Answer, Granule, Pages, PhysAddr, Pool, Refusal, Regime, Session, Stop, VirtAddr,
+    VirtPage, HARVEST_LIMIT, MEMORY_LIMIT, POOL_LIMIT,
 };
 
 /// Where the pool starts: with the memory, or so that both end together.
@@ -101,11 +101,42 @@ fn largest_pool_in_a_session() {
     }
 }
 
-/// Refused with 1: a walk, and a set regime.
+#[test]
+fn largest_pool_harvested() {
+    // As many pages as can be: the last leaf is among them, and the one past
+    // the pool, which is as dirty, would be.
+    let pages = Pages::new(VirtPage(0), HARVEST_LIMIT);
+    let last = LAST.page(Granule::Kib4);
+    for start in STARTS {
+        let mut room = room_of(start);
+        put(&mut room, start + POOL_LIMIT - 8, DIRTY);
+        put(&mut room, start + POOL_LIMIT, DIRTY);
+        let mut expected = room.clone();
+        put(&mut expected, start + POOL_LIMIT - 8, READ);
+        let mut map = vec![0x5a; pages.map_length() + 1];
+        let lent = &mut room[..MEMORY_LIMIT];
+        harvest(lent, &of(start, POOL_LIMIT), pages, &mut map).unwrap();
+        assert!(pages.dirty(&map).eq([last]));
+        assert_eq!(map.last(), Some(&0x5a));
+        assert!(room == expected);
+
+        let lent = &mut room[..MEMORY_LIMIT];
+        let mut session = Both::new();
+        session.set_regime(lent, &of(start, POOL_LIMIT)).unwrap();
+        found(session.access(lent, &write(LAST)), false, true);
+        session.harvest(lent, pages, &mut map).unwrap();
+        assert!(pages.dirty(&map).eq([last]));
+        assert!(room == expected);
+    }
+}
+
+/// Refused with 1: a walk, a harvest, and a set regime.
 fn refused(lent: &mut [u8], regime: &Regime) {
     let refusal = Refusal::MemoryPool;
     let answer = walk(lent, regime, &read(LAST));
     assert_eq!(answer, Err(Stop::Refused(refusal)));
+    let pages = Pages::new(VirtPage(0), 8);
+    assert_eq!(harvest(lent, regime, pages, &mut [0]), Err(refusal));
     let mut session = Session::new();
     assert_eq!(session.set_regime(lent, regime), Err(refusal));
     assert_eq!(session, Session::new());
@@ -125,6 +156,8 @@ fn one_byte_more_of_memory() {
     let answer = session.access(long, &read(LAST));
     assert_eq!(answer, Err(Stop::Refused(refusal)));
     assert_eq!(session.store(long, PhysAddr(POOL), 0), Err(refusal));
+    let pages = Pages::new(VirtPage(0), 8);
+    assert_eq!(session.harvest(long, pages, &mut [0]), Err(refusal));
     assert_eq!(session, before);
     assert!(room == room_of(0));
 }

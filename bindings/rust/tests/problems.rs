@@ -1,6 +1,7 @@
-//! `Regime::check`, `Regime::check_stepwise` and `Access::check` against the
-//! library: they find a problem exactly where it refuses, with the same number.
-//! At every limit, and over many random regimes and accesses; and the words.
+//! `Regime::check`, `Regime::check_stepwise`, `Access::check` and `Pages::check`
+//! against the library: they find a problem exactly where it refuses, with the
+//! same number. At every limit, and over many random regimes, accesses and
+//! harvests; and the words.
 
 mod tables;
 
@@ -9,11 +10,14 @@ use std::mem::discriminant;
 
 use tables::{read, regime, Random, POOL};
 use vmsa::{
-    walk, Access, AccessKind, Granule, PhysAddr, Pool, Problem, Refusal, Regime, Session,
-    StepwiseWalk, Stop, VirtAddr, MEMORY_LIMIT, POOL_LIMIT,
+    harvest, walk, Access, AccessKind, Granule, Pages, PhysAddr, Pool, Problem, Refusal, Regime,
+    Session, StepwiseWalk, Stop, VirtAddr, VirtPage, HARVEST_LIMIT, MEMORY_LIMIT, POOL_LIMIT,
 };
 
 const TOP: u64 = 1 << 48;
+
+/// The most bytes of a map here: more than any harvest needs.
+const MAP: usize = HARVEST_LIMIT as usize / 8 + 8;
 
 /// What is checked. As it starts there is no problem.
 #[derive(Clone, Copy, Debug)]
@@ -21,6 +25,8 @@ struct Question {
     memory: usize,
     regime: Regime,
     access: Access,
+    pages: Pages,
+    map: usize,
 }
 
 type Change = fn(&mut Question);
@@ -30,6 +36,8 @@ fn question() -> Question {
         memory: POOL_LIMIT,
         regime: regime().pool(Pool::new(0, POOL_LIMIT, PhysAddr(POOL))),
         access: read(),
+        pages: Pages::new(VirtPage(0x400), 9),
+        map: 2,
     }
 }
 
@@ -50,6 +58,14 @@ impl Question {
             .err()
     }
 
+    /// A harvest's first problem: the regime comes before pages and map.
+    fn problem_of_harvest(&self) -> Option<Problem> {
+        let regime = self.regime.check(self.memory);
+        regime
+            .and_then(|()| self.pages.check(&self.regime, self.map))
+            .err()
+    }
+
     /// The first problem of the start of a stepwise walk.
     fn problem_of_start(&self) -> Option<Problem> {
         let regime = self.regime.check_stepwise();
@@ -63,7 +79,8 @@ impl Question {
 /// changes it. A session for each granule.
 struct Library {
     memory: Vec<u8>,
-    sessions: [(Granule, Session); 3],
+    map: Vec<u8>,
+    sessions: [(Regime, Session); 3],
 }
 
 impl Library {
@@ -76,14 +93,18 @@ impl Library {
         } = question();
         let sessions = Granule::ALL.map(|granule| {
             let mut session = Session::new();
-            let set = session.set_regime(&memory[..lent], &regime.granule(granule));
-            set.unwrap();
-            (granule, session)
+            let regime = regime.granule(granule);
+            session.set_regime(&memory[..lent], &regime).unwrap();
+            (regime, session)
         });
-        Self { memory, sessions }
+        Self {
+            memory,
+            map: vec![0; MAP],
+            sessions,
+        }
     }
 
-    /// Holds the checks against the four calls that make them.
+    /// Holds the checks against the six calls that make them.
     fn agrees(&mut self, question: &Question) {
         let lent = &mut self.memory[..question.memory];
         let refusal = |checked: Result<(), Problem>| checked.map_err(Problem::refusal);
@@ -95,17 +116,27 @@ impl Library {
         let found = question.problem().map(Problem::refusal);
         assert_eq!(found, given.err().and_then(Stop::refusal), "{question:?}");
 
+        let map = &mut self.map[..question.map];
+        let given = harvest(lent, &question.regime, question.pages, map);
+        let found = question.problem_of_harvest().map(Problem::refusal);
+        assert_eq!(found, given.err(), "{question:?}");
+
         let ended = StepwiseWalk::start(&question.regime, &question.access).run(|_| None);
         let given = ended.settle(|_| panic!("no update is due")).unwrap();
         let found = question.problem_of_start().map(Problem::refusal);
         assert_eq!(found, given.err().and_then(Stop::refusal), "{question:?}");
 
         let lent = &mut self.memory[..POOL_LIMIT];
-        for (granule, session) in &mut self.sessions {
+        for (regime, session) in &mut self.sessions {
             let given = session.access(lent, &question.access);
-            let found = question.access.check(*granule);
+            let found = question.access.check(regime.granule);
             let found = found.err().map(Problem::refusal);
             assert_eq!(found, given.err().and_then(Stop::refusal), "{question:?}");
+
+            let map = &mut self.map[..question.map];
+            let given = session.harvest(lent, question.pages, map);
+            let checked = question.pages.check(regime, question.map);
+            assert_eq!(refusal(checked), given, "{question:?}");
         }
     }
 }
@@ -222,9 +253,45 @@ const CAUSES: [(Change, Refusal, &str); 21] = [
     ),
 ];
 
+/// The same for a harvest: what its causes are after those of the regime.
+const HARVEST_CAUSES: [(Change, Refusal, &str); 6] = [
+    (
+        |q| q.pages.first = VirtPage(1 << 36),
+        Refusal::PageRange,
+        "the first page, 0x1000000000, is in neither range",
+    ),
+    (
+        |q| q.pages.count = 0,
+        Refusal::PageRange,
+        "the number of pages is 0",
+    ),
+    (
+        |q| q.pages.count = HARVEST_LIMIT + 1,
+        Refusal::PageRange,
+        "the number of pages, HARVEST_LIMIT + 1, is above its limit, HARVEST_LIMIT",
+    ),
+    (
+        |q| q.pages = Pages::new(VirtPage((1 << 36) - 8), 9),
+        Refusal::PageRange,
+        "the last page, 0x1000000000, is past that of range 0, 0xfffffffff",
+    ),
+    (
+        |q| q.pages = Pages::new(VirtPage((1 << 52) - 9), 10),
+        Refusal::PageRange,
+        "the last page, 0x10000000000000, is past that of range 1, 0xfffffffffffff",
+    ),
+    (
+        |q| q.map = 1,
+        Refusal::MapLength,
+        "the map's length, 1, is below 2, the bytes for 9 pages",
+    ),
+];
+
 /// Such words with the limits' numbers.
 fn numbered(words: &str) -> String {
     [
+        ("HARVEST_LIMIT + 1", HARVEST_LIMIT as usize + 1),
+        ("HARVEST_LIMIT", HARVEST_LIMIT as usize),
         ("MEMORY_LIMIT + 1", MEMORY_LIMIT + 1),
         ("MEMORY_LIMIT", MEMORY_LIMIT),
         ("POOL_LIMIT + 4096", POOL_LIMIT + 4096),
@@ -241,6 +308,16 @@ fn words() {
     assert_eq!(question().problem(), None);
     for (change, refusal, words) in CAUSES {
         let problem = changed(&[change]).problem().unwrap();
+        assert_eq!(problem.refusal(), refusal);
+        let (number, words) = (refusal.number(), numbered(words));
+        assert_eq!(
+            problem.to_string(),
+            format!("refused with {number}: {words}")
+        );
+    }
+    assert_eq!(question().problem_of_harvest(), None);
+    for (change, refusal, words) in HARVEST_CAUSES {
+        let problem = changed(&[change]).problem_of_harvest().unwrap();
         assert_eq!(problem.refusal(), refusal);
         let (number, words) = (refusal.number(), numbered(words));
         assert_eq!(
@@ -334,6 +411,19 @@ fn values_to_match_on() {
             granule: Granule::Kib16,
         })
     );
+    let pages = Pages::new(VirtPage(0x400), 9);
+    assert_eq!(
+        pages.check(&regime, 1),
+        Err(Problem::MapTooShort { length: 1, pages })
+    );
+    assert_eq!(
+        Pages::new(VirtPage((1 << 34) - 1), 2).check(&regime.granule(Granule::Kib16), 1),
+        Err(Problem::PagesPastRange {
+            range: 0,
+            last: VirtPage(1 << 34),
+            end: VirtPage((1 << 34) - 1),
+        })
+    );
 }
 
 #[test]
@@ -349,6 +439,34 @@ fn the_first_of_two() {
                 problem.to_string().ends_with(&words),
                 "{problem}, not {words}"
             );
+            library.agrees(&question);
+        }
+    }
+}
+
+#[test]
+fn the_first_of_two_of_a_harvest() {
+    // The causes of the regime come first; those of an access are none.
+    let mut library = Library::new();
+    for (change, refusal, _) in CAUSES {
+        let expected = match refusal {
+            Refusal::AccessSize | Refusal::PageCrossing => None,
+            _ => changed(&[change]).problem(),
+        };
+        assert_eq!(changed(&[change]).problem_of_harvest(), expected);
+        for (later, ..) in HARVEST_CAUSES {
+            let question = changed(&[later, change]);
+            let later = changed(&[later]).problem_of_harvest();
+            assert_eq!(question.problem_of_harvest(), expected.or(later));
+            library.agrees(&question);
+        }
+    }
+    for (place, (change, ..)) in HARVEST_CAUSES.into_iter().enumerate() {
+        let expected = changed(&[change]).problem_of_harvest().unwrap();
+        for (later, ..) in &HARVEST_CAUSES[place + 1..] {
+            let question = changed(&[*later, change]);
+            let problem = question.problem_of_harvest().unwrap();
+            assert_eq!(discriminant(&problem), discriminant(&expected));
             library.agrees(&question);
         }
     }
@@ -497,6 +615,82 @@ fn at_every_limit_of_a_granule() {
     }
 }
 
+/// The first page of a range, and the first past it.
+fn bounds(granule: Granule, range: u8, tsz: u8) -> (u64, u64) {
+    let all = 1 << (64 - granule.page_bits());
+    match range {
+        0 => (0, all >> tsz),
+        _ => (all - (all >> tsz), all),
+    }
+}
+
+/// A harvest, and whether there is no problem with it.
+fn asked(library: &mut Library, regime: Regime, pages: (u64, u64), map: usize, well: bool) {
+    let question = Question {
+        regime,
+        pages: Pages::new(VirtPage(pages.0), pages.1),
+        map,
+        ..question()
+    };
+    let problem = question.problem_of_harvest();
+    assert_eq!(problem.is_none(), well, "{question:?}");
+    library.agrees(&question);
+}
+
+/// At each end of a range, and past it.
+fn at_ends(library: &mut Library, regime: Regime, begin: u64, end: u64) {
+    let most = HARVEST_LIMIT.min(end - begin);
+    for (first, count, well) in [
+        (begin, 1, true),
+        (begin, most, true),
+        (begin, most + 1, false),
+        (begin, 0, false),
+        (begin, u64::MAX, false),
+        (begin.wrapping_sub(1), 1, false),
+        (end - most, most, true),
+        (end - most + 1, most, false),
+        (end - 1, 1, true),
+        (end - 1, 2, false),
+        (end - 1, u64::MAX, false),
+        (end, 1, false),
+        (u64::MAX, 1, false),
+    ] {
+        asked(library, regime, (first, count), MAP, well);
+    }
+}
+
+#[test]
+fn at_every_end_of_a_range() {
+    let mut library = Library::new();
+    for granule in Granule::ALL {
+        for tsz in [16, 27, 39] {
+            let mut regime = question().regime.granule(granule);
+            (regime.range0.tsz, regime.range1.tsz) = (tsz, 33);
+            let (begin, end) = bounds(granule, 0, tsz);
+            at_ends(&mut library, regime, begin, end);
+            (regime.range0.tsz, regime.range1.tsz) = (33, tsz);
+            let (begin, end) = bounds(granule, 1, tsz);
+            at_ends(&mut library, regime, begin, end);
+        }
+    }
+}
+
+#[test]
+fn at_every_limit_of_a_map() {
+    let mut library = Library::new();
+    for (count, map) in [(8, 1), (16, 2), (65_528, 8191), (65_536, 8192)] {
+        for (count, map, well) in [
+            (count, map, true),
+            (count - 7, map, true),
+            (count - 7, map - 1, false),
+            (count, 0, false),
+            (count + 1, map, false),
+        ] {
+            asked(&mut library, question().regime, (0, count), map, well);
+        }
+    }
+}
+
 /// A number that is often at a limit.
 fn edge(random: &mut Random) -> u64 {
     let granule = random.pick(&Granule::ALL).bytes();
@@ -522,12 +716,30 @@ fn edge(random: &mut Random) -> u64 {
     }
 }
 
+/// Changes the pages or the map of a harvest.
+fn change_harvest(question: &mut Question, random: &mut Random, number: u64) {
+    let regime = &question.regime;
+    let limit = HARVEST_LIMIT;
+    match random.below(4) {
+        0 => {
+            let range = random.below(2) as u8;
+            let tsz = [regime.range0.tsz, regime.range1.tsz][usize::from(range)];
+            let (begin, end) = bounds(regime.granule, range, tsz.min(63));
+            let near = random.pick(&[begin, end, end, 1 << 55, number]);
+            let first = near.wrapping_add(5).wrapping_sub(random.below(10));
+            question.pages.first = VirtPage(first);
+        }
+        1 => question.map = random.below(5) as usize,
+        _ => question.pages.count = random.pick(&[0, 1, 8, 9, 16, limit, limit + 1, number]),
+    }
+}
+
 /// Changes one thing to a number at random.
 fn change(question: &mut Question, random: &mut Random) {
     let number = edge(random);
     let regime = &mut question.regime;
     let tsz = random.pick(&[0, 15, 16, 25, 39, 40, number as u8]);
-    match random.below(16) {
+    match random.below(20) {
         0 => question.memory = number as usize % (MEMORY_LIMIT + 4096),
         1 => regime.pool.start = number as usize,
         2 => regime.pool.length = number as usize,
@@ -553,6 +765,7 @@ fn change(question: &mut Question, random: &mut Random) {
             regime.hd = random.below(2) == 0;
         }
         14 => regime.granule = random.pick(&Granule::ALL),
+        15..=18 => change_harvest(question, random, number),
         _ => {
             regime.range0.disabled = random.below(2) == 0;
             regime.range1.disabled = random.below(2) == 0;
@@ -569,6 +782,8 @@ fn has(question: &Question, problem: Problem) -> bool {
         memory,
         regime,
         access,
+        pages,
+        map,
     } = question;
     let pool = regime.pool;
     let ranges = [regime.range0, regime.range1];
@@ -633,6 +848,34 @@ fn has(question: &Question, problem: Problem) -> bool {
                 && last.0.wrapping_sub(first.0) == access.size - 1
                 && first.0 & !within != last.0 & !within
         }
+        _ => has_of_harvest(regime, *pages, *map, problem),
+    }
+}
+
+/// Whether a harvest has a problem, by the addresses of its pages.
+fn has_of_harvest(regime: &Regime, pages: Pages, map: usize, problem: Problem) -> bool {
+    let address = |page: u64| u128::from(page) << regime.granule.page_bits();
+    let size = |tsz: u8| 1_u128 << 64_u8.saturating_sub(tsz);
+    let ends = [size(regime.range0.tsz), 1 << 64];
+    let begins = [0, ends[1] - size(regime.range1.tsz)];
+    let within = |range: usize, page| (begins[range]..ends[range]).contains(&address(page));
+    let first = pages.first.0;
+    match problem {
+        Problem::FirstPageOutside { first: page } => {
+            page.0 == first && !within(0, first) && !within(1, first)
+        }
+        Problem::NoPages => pages.count == 0,
+        Problem::TooManyPages { count } => count == pages.count && count > HARVEST_LIMIT,
+        Problem::PagesPastRange { range, last, end } => {
+            let range = usize::from(range);
+            within(range, first)
+                && !within(range, last.0)
+                && last.0 - first == pages.count - 1
+                && address(end.0 + 1) == ends[range]
+        }
+        Problem::MapTooShort { length, pages: of } => {
+            length == map && of == pages && (length as u128) * 8 < pages.count.into()
+        }
         _ => false,
     }
 }
@@ -652,18 +895,21 @@ fn over_random_questions() {
         let found = [
             question.regime.check(question.memory).err(),
             question.access.check(question.regime.granule).err(),
+            question.pages.check(&question.regime, question.map).err(),
         ];
         for problem in found.into_iter().flatten() {
             assert!(has(&question, problem), "{problem:?} of {question:?}");
             met.insert(discriminant(&problem));
         }
-        accepted += usize::from(found == [None, None]);
+        accepted += usize::from(found == [None; 3]);
     }
     assert!(library.memory.iter().all(|&byte| byte == 0));
 
     // The questions are worth something: each problem was met.
     let causes = CAUSES.map(|(change, ..)| changed(&[change]).problem().unwrap());
-    let causes: HashSet<_> = causes.iter().map(discriminant).collect();
+    let of_harvest = HARVEST_CAUSES.map(|(change, ..)| changed(&[change]).problem_of_harvest());
+    let causes = causes.iter().chain(of_harvest.iter().flatten());
+    let causes: HashSet<_> = causes.map(discriminant).collect();
     assert_eq!(met, causes);
     assert!(accepted > 5_000, "{accepted} accepted");
 }

@@ -3,7 +3,10 @@
 mod tables;
 
 use tables::{memory, read, regime, LENGTH, POOL};
-use vmsa::{Access, PhysAddr, Range, Refusal, Regime, Session, Step, StepwiseWalk, VirtAddr};
+use vmsa::{
+    Access, Pages, PhysAddr, Range, Refusal, Regime, Session, Step, StepwiseWalk, VirtAddr,
+    VirtPage,
+};
 
 /// What a call is made with; as it starts, none is refused.
 struct Question {
@@ -12,6 +15,8 @@ struct Question {
     regime: Regime,
     access: Access,
     store: PhysAddr,
+    pages: Pages,
+    map: usize,
 }
 
 type Change = fn(&mut Question);
@@ -43,6 +48,10 @@ const REFUSALS: &[(Refusal, u8, Change)] = &[
         question.store = PhysAddr(POOL + LENGTH as u64);
     }),
     (Refusal::NoRegime, 9, |question| question.set = false),
+    (Refusal::PageRange, 10, |question| {
+        question.pages.first = VirtPage(1 << 36);
+    }),
+    (Refusal::MapLength, 11, |question| question.map = 1),
     (Refusal::WalkEnded, 12, |_| {}),
     (Refusal::DirtyState, 13, |question| {
         question.regime.ha = false;
@@ -54,7 +63,7 @@ type Call = fn(&Question) -> Option<Refusal>;
 
 /// The order in which each call checks (`docs/RULES.md`, 5.3). Which of two
 /// comes first follows from their places here, and from nothing else.
-const ORDERS: [(Call, &[Refusal]); 5] = [
+const ORDERS: [(Call, &[Refusal]); 7] = [
     (
         walk,
         &[
@@ -97,6 +106,28 @@ const ORDERS: [(Call, &[Refusal]); 5] = [
         ],
     ),
     (
+        harvest,
+        &[
+            Refusal::MemoryPool,
+            Refusal::PoolAddress,
+            Refusal::Sizes,
+            Refusal::Root,
+            Refusal::Attributes,
+            Refusal::DirtyState,
+            Refusal::PageRange,
+            Refusal::MapLength,
+        ],
+    ),
+    (
+        session_harvest,
+        &[
+            Refusal::NoRegime,
+            Refusal::MemoryPool,
+            Refusal::PageRange,
+            Refusal::MapLength,
+        ],
+    ),
+    (
         start,
         &[
             Refusal::Sizes,
@@ -116,6 +147,8 @@ fn question() -> Question {
         regime: regime(),
         access: read(),
         store: PhysAddr(POOL),
+        pages: Pages::new(VirtPage(0x400), 9),
+        map: 2,
     }
 }
 
@@ -130,8 +163,8 @@ fn set_regime(question: &Question) -> Option<Refusal> {
     Session::new().set_regime(lent, &question.regime).err()
 }
 
-/// The session of an access or a store. What is wrong with the regime does
-/// not reach it.
+/// The session of an access, a store or a harvest. What is wrong with the
+/// regime does not reach it.
 fn session(question: &Question) -> Session {
     let mut session = Session::new();
     if question.set {
@@ -149,6 +182,18 @@ fn access(question: &Question) -> Option<Refusal> {
 fn store(question: &Question) -> Option<Refusal> {
     let lent = &mut memory()[..question.lent];
     session(question).store(lent, question.store, 0).err()
+}
+
+fn harvest(question: &Question) -> Option<Refusal> {
+    let lent = &mut memory()[..question.lent];
+    let map = &mut vec![0; question.map];
+    vmsa::harvest(lent, &question.regime, question.pages, map).err()
+}
+
+fn session_harvest(question: &Question) -> Option<Refusal> {
+    let lent = &mut memory()[..question.lent];
+    let map = &mut vec![0; question.map];
+    session(question).harvest(lent, question.pages, map).err()
 }
 
 fn start(question: &Question) -> Option<Refusal> {
@@ -218,6 +263,7 @@ fn a_disabled_range_is_checked() {
             };
             assert_eq!(walk(&question), Some(refusal));
             assert_eq!(set_regime(&question), Some(refusal));
+            assert_eq!(harvest(&question), Some(refusal));
             assert_eq!(start(&question), Some(refusal));
         }
     }
@@ -233,6 +279,7 @@ fn dirty_state() {
         let expected = (hd && !ha).then_some(Refusal::DirtyState);
         assert_eq!(walk(&question), expected, "{ha}, {hd}");
         assert_eq!(set_regime(&question), expected, "{ha}, {hd}");
+        assert_eq!(harvest(&question), expected, "{ha}, {hd}");
         assert_eq!(start(&question), expected, "{ha}, {hd}");
     }
 }

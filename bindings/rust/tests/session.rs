@@ -9,7 +9,8 @@ use tables::{
     LENGTH, NO_EL0, NO_WRITE, POOL, TABLES,
 };
 use vmsa::{
-    walk, Access, Answer, FaultKind, PhysAddr, Range, Refusal, Regime, Session, Stop, VirtAddr,
+    harvest, walk, Access, Answer, FaultKind, Granule, Pages, PhysAddr, Range, Refusal, Regime,
+    Session, Stop, VirtAddr, VirtPage,
 };
 
 const AP2: u64 = 1 << 7;
@@ -37,6 +38,13 @@ fn reads(answer: Answer) -> u8 {
     }
 }
 
+/// The session with every entry empty.
+fn emptied(session: &Session) -> Session {
+    let mut session = session.clone();
+    session.invalidate_all();
+    session
+}
+
 #[test]
 fn script() {
     let mut memory = memory();
@@ -51,6 +59,10 @@ fn script() {
         Err(Stop::Refused(no_regime))
     );
     assert_eq!(session.store(&mut memory, leaf, 0), Err(no_regime));
+    let page = Pages::new(ADDRESS.page(Granule::Kib4), 1);
+    let mut map = [0x5a; 2];
+    let refused = session.harvest(&mut memory, page, &mut map);
+    assert_eq!(refused, Err(no_regime));
     session.invalidate_all();
     let bad = regime().range0(Range::new(PhysAddr(POOL), 15));
     assert_eq!(session.set_regime(&memory, &bad), Err(Refusal::Sizes));
@@ -103,7 +115,20 @@ fn script() {
     assert_eq!(reads(session.access(&mut memory, &read())), 4);
     assert_eq!(reads(session.access(&mut memory, &probe)), 4);
 
-    // Refused calls change neither memory nor session.
+    // A harvest reports the page, makes it clean and empties the entries, so
+    // that the next write marks it again.
+    session.harvest(&mut memory, page, &mut map).unwrap();
+    for _ in 0..2 {
+        let found = session.access(&mut memory, &write()).unwrap();
+        assert_eq!((found.reads, found.dirtied), (4, true));
+        assert_eq!(reads(session.access(&mut memory, &write())), 0);
+        session.harvest(&mut memory, page, &mut map).unwrap();
+        assert_eq!(map, [1, 0x5a]);
+        assert_eq!(get(&memory, LEAF), CLEAN | AF | 0x1_0000);
+        assert_eq!(session.0, emptied(&session.0));
+    }
+
+    // Refused calls change neither memory nor session, nor the map.
     let before = (session.clone(), memory.clone());
     for (bad, refusal) in [
         (regime().attribute(3, 0x01), Refusal::Attributes),
@@ -125,12 +150,19 @@ fn script() {
         let answer = session.store(&mut memory, PhysAddr(address), 1);
         assert_eq!(answer, Err(Refusal::StoreAddress));
     }
+    for (count, refusal) in [(0, Refusal::PageRange), (17, Refusal::MapLength)] {
+        let pages = Pages { count, ..page };
+        let answer = session.harvest(&mut memory, pages, &mut map);
+        assert_eq!((answer, map), (Err(refusal), [1, 0x5a]));
+    }
     let short = &mut memory[..0x8000];
     assert_eq!(
         session.access(short, &read()),
         Err(Stop::Refused(Refusal::MemoryPool))
     );
     assert_eq!(session.store(short, leaf, 0), Err(Refusal::MemoryPool));
+    let answer = session.harvest(short, page, &mut map);
+    assert_eq!((answer, map), (Err(Refusal::MemoryPool), [1, 0x5a]));
     assert!((session.clone(), memory.clone()) == before);
 
     // The last descriptor of the pool may be stored; a new regime empties.
@@ -261,15 +293,25 @@ fn same_calls_same_session() {
     assert_ne!(held, set);
     let stored = both(&|session, memory| session.store(memory, PhysAddr(POOL), 0).unwrap());
     assert_eq!(stored, held);
-    // An emptied session is as one that was just set.
+    // An emptied session is as one that was just set; so is a harvested one.
     assert_eq!(both(&|session, _| session.invalidate_all()), set);
+    both(&|session, memory| {
+        let _ = session.access(memory, &write());
+    });
+    let pages = Pages::new(VirtPage(0), 1);
+    let harvested = both(&|session, memory| {
+        session.harvest(memory, pages, &mut [0]).unwrap();
+    });
+    assert_eq!(harvested, set);
     assert!(memories[0] == memories[1]);
 }
 
 /// What the lists have met: successes from an entry, dirty marks by EE,
-/// successes by granule, and faults.
+/// successes by granule, faults, harvests, and pages that these reported.
 #[derive(Debug, Default)]
 struct Met {
+    harvests: u32,
+    reported: u32,
     held: u32,
     dirtied: [u32; 2],
     found: [u32; 3],
@@ -306,7 +348,8 @@ impl List {
         assert!(self.memory == before);
     }
 
-    fn store(&mut self, random: &mut Random) {
+    /// A store is followed by a drop, or by a harvest, which is one too.
+    fn store(&mut self, random: &mut Random, met: &mut Met) {
         let mut expected = self.memory.clone();
         let offset = self.kind.any_page(random) + 8 * random.below(32);
         let value = self.kind.descriptor(random);
@@ -315,9 +358,37 @@ impl List {
         if let (Ok(()), Some(regime)) = (answer, self.last) {
             let offset = regime.pool.start + offset as usize;
             put_in(regime.ee, &mut expected, offset, value);
+            assert!(self.memory == expected);
+            while random.below(2) == 0 {
+                if self.harvest(random, met).is_ok() {
+                    return;
+                }
+            }
             self.session.invalidate_all();
         }
         assert!(self.memory == expected);
+    }
+
+    /// It leaves what the plain harvest leaves.
+    fn harvest(&mut self, random: &mut Random, met: &mut Met) -> Result<(), Refusal> {
+        let mut plain = self.memory.clone();
+        let granule = self.last.map_or(self.kind.granule, |regime| regime.granule);
+        let address = self.kind.access(random, self.last).address;
+        let pages = Pages::new(address.page(granule), random.below(70));
+        let (mut map, mut plain_map) = ([0x5a; 8], [0x5a; 8]);
+        let answer = self.session.harvest(&mut self.memory, pages, &mut map);
+        let expected = match self.last {
+            Some(regime) => harvest(&mut plain, &regime, pages, &mut plain_map),
+            None => Err(Refusal::NoRegime),
+        };
+        assert_eq!((answer, map), (expected, plain_map), "{pages:?}");
+        assert!(self.memory == plain, "{pages:?}");
+        if answer.is_ok() {
+            assert_eq!(self.session, emptied(&self.session));
+            met.harvests += 1;
+            met.reported += pages.dirty(&map).len() as u32;
+        }
+        answer
     }
 
     fn access(&mut self, random: &mut Random, met: &mut Met) {
@@ -350,7 +421,8 @@ fn as_the_plain_walk() {
         for _ in 0..200 {
             match random.below(24) {
                 0 => list.set_regime(&mut random),
-                1 => list.store(&mut random),
+                1 => list.store(&mut random, &mut met),
+                2 => drop(list.harvest(&mut random, &mut met)),
                 _ => list.access(&mut random, &mut met),
             }
         }
@@ -358,7 +430,9 @@ fn as_the_plain_walk() {
     // The lists are worth something.
     let few = |counts: &[u32], least| counts.iter().any(|&count| count < least);
     assert!(
-        !few(&[met.held, met.faults], 1000) && !few(&met.dirtied, 100) && !few(&met.found, 500),
+        !few(&[met.held, met.faults, met.harvests, met.reported], 1000)
+            && !few(&met.dirtied, 100)
+            && !few(&met.found, 500),
         "{met:?}"
     );
 }

@@ -3,6 +3,7 @@
 use super::{
     bytes_mut, difference, granule_of, scribbled, CAccess, CAnswer, CRegime, Plain, Spelling,
 };
+use crate::harvest::Harvest;
 use crate::random::Random;
 use crate::reference::{Access, Leaf, Regime, PXN_TABLE, TAKING_FIELD};
 use crate::session::{page_of, place_of, Call, Held, Session, PLACES};
@@ -15,7 +16,7 @@ const NAME: &str = "session";
 /// What a session replies to a call, in the library's form.
 #[derive(Clone, Copy, Debug, PartialEq, Eq)]
 pub enum Reply {
-    /// To set regime and store: 0 accepted, else the refusal.
+    /// To set regime, store and harvest: 0 accepted, else the refusal.
     Changed(u8),
     /// To an access.
     Answered(CAnswer),
@@ -29,6 +30,8 @@ pub trait Subject: Clone {
     fn access(&mut self, memory: &mut [u8], access: &Access, spelling: Spelling) -> CAnswer;
     fn store(&mut self, memory: &mut [u8], address: u64, value: u64) -> u8;
     fn invalidate_all(&mut self);
+    /// The map is as long as the call says.
+    fn harvest(&mut self, memory: &mut [u8], asked: &Harvest, map: &mut [u8]) -> u8;
 
     /// Takes other bytes for its own.
     fn put(&mut self, bytes: &CSession);
@@ -46,7 +49,14 @@ pub trait Subject: Clone {
         None
     }
 
-    fn call(&mut self, memory: &mut [u8], call: &Call, spelling: Spelling) -> Reply {
+    /// A call over a memory, and over a map where it has one.
+    fn call(
+        &mut self,
+        memory: &mut [u8],
+        map: &mut [u8],
+        call: &Call,
+        spelling: Spelling,
+    ) -> Reply {
         self.scribble(spelling.noise);
         match call {
             Call::SetRegime(regime) => Reply::Changed(self.set_regime(memory, regime, spelling)),
@@ -56,6 +66,7 @@ pub trait Subject: Clone {
                 self.invalidate_all();
                 Reply::Dropped
             }
+            Call::Harvest(asked) => Reply::Changed(self.harvest(memory, asked, map)),
         }
     }
 }
@@ -164,12 +175,16 @@ pub struct SessionFunctions {
     pub access: unsafe extern "C" fn(*mut CSession, *mut u8, usize, *const CAccess, *mut CAnswer),
     pub store: unsafe extern "C" fn(*mut CSession, *mut u8, usize, u64, u64) -> u8,
     pub invalidate_all: unsafe extern "C" fn(*mut CSession),
+    pub harvest:
+        unsafe extern "C" fn(*mut CSession, *mut u8, usize, u64, u64, *mut u8, usize) -> u8,
 }
 
 /// A session of the library under test.
 #[derive(Clone, Copy)]
 pub struct LibrarySession {
     functions: SessionFunctions,
+    /// An entry of the fresh session.
+    empty: CEntry,
     session: CSession,
     /// The session as the last call found it.
     found: CSession,
@@ -199,6 +214,7 @@ impl LibrarySession {
             Some(words) => Err(words),
             None => Ok(LibrarySession {
                 functions,
+                empty: session.entries[0],
                 session,
                 found: session,
             }),
@@ -226,9 +242,8 @@ impl LibrarySession {
                 wanted.entries[place] = self.session.entries[place];
                 wanted.entries[place].fill_idle(0);
             }
-            (Call::DropAll, _) => {
-                wanted.entries = self.session.entries;
-                wanted.entries.iter_mut().for_each(|e| e.fill_idle(0));
+            (Call::DropAll, _) | (Call::Harvest(_), Reply::Changed(0)) => {
+                wanted.entries = [self.empty; PLACES];
             }
             _ => {}
         }
@@ -266,6 +281,15 @@ impl Subject for LibrarySession {
     fn invalidate_all(&mut self) {
         // SAFETY: as for `set_regime`.
         unsafe { (self.functions.invalidate_all)(&mut self.session) }
+    }
+
+    fn harvest(&mut self, memory: &mut [u8], asked: &Harvest, map: &mut [u8]) -> u8 {
+        let (start, length) = (memory.as_mut_ptr(), memory.len());
+        let (bits, room) = (map.as_mut_ptr(), map.len());
+        let (first, count) = (asked.first, asked.count);
+        let session = &mut self.session;
+        // SAFETY: as for `set_regime`, and so are pointer and length of the map.
+        unsafe { (self.functions.harvest)(session, start, length, first, count, bits, room) }
     }
 
     fn put(&mut self, bytes: &CSession) {

@@ -532,10 +532,15 @@ impl Scene {
     pub fn lay(&mut self, random: &mut Random, path: &Path, leaf: u64) {
         self.regime.ranges[path.range].root = path.tables[path.first];
         for level in path.first..path.leaf_level {
-            let table = draw_table(random, self.regime.granule, path.tables[level + 1]);
-            self.put(path.entry(level), table);
+            self.lead(random, path, level, path.tables[level + 1]);
         }
         self.put(path.entry(path.leaf_level), leaf);
+    }
+
+    /// Makes the descriptor of a path at a level one for a table.
+    pub fn lead(&mut self, random: &mut Random, path: &Path, level: usize, table: u64) {
+        let descriptor = draw_table(random, self.regime.granule, table);
+        self.put(path.entry(level), descriptor);
     }
 
     /// The address that the path translates, its lower bits free.

@@ -5,16 +5,20 @@ use super::world::{draw_usable_leaf, lead_to, set_bit, vary, Leaves, World};
 use super::{Step, CALLS};
 use crate::boundary::Spelling;
 use crate::cases::scene::{draw_access, draw_access_of, draw_table, HD_ALONE};
-use crate::geometry::{Granule, PHYSICAL_LIMIT};
+use crate::geometry::{Granule, LAST_LEVEL, PHYSICAL_LIMIT};
 use crate::granules::with_granule;
+use crate::harvest::{
+    draw_fitting, draw_near, range_of, span_of, spoil_map, spoil_pages, with_map, Fit, MOST_PAGES,
+};
 use crate::random::Random;
 use crate::reference::{
-    find_leaf, is_device, offset_in_memory, output_limit, pool_reader, read_descriptor,
-    writable_clean, Access, Kind, Regime, AF, AP1, AP2, DBM, POOL_LIMIT, PXN, TAKING, UXN,
+    find_leaf, is_device, offset_in_memory, output_limit, pool_reader, range_at, read_descriptor,
+    writable_clean, Access, Kind, Regime, AF, AP1, AP2, DBM, PXN, TAKING, UXN,
 };
 use crate::refusals::{of_set_regime, row_1, SET_REGIME};
 use crate::reversed::other_order;
 use crate::session::{first_of, page_of, Call, Held, Session};
+use crate::spoil::spoil;
 use std::vec;
 
 /// How often each sort of call comes.
@@ -29,6 +33,8 @@ struct Mood {
     other_granule: u64,
     bad_regime: u64,
     bad_access: u64,
+    harvest: u64,
+    bad_harvest: u64,
     /// The rest, to 100, are accesses; of 8 of them, so many write.
     writes: u64,
     /// One call in so many is lent another length.
@@ -43,6 +49,8 @@ const EVEN: Mood = Mood {
     other_granule: 1,
     bad_regime: 3,
     bad_access: 3,
+    harvest: 3,
+    bad_harvest: 1,
     writes: 1,
     odd_length: 40,
 };
@@ -76,6 +84,7 @@ const REGIMES: Mood = Mood {
     regime: 10,
     bad_regime: 10,
     bad_access: 10,
+    harvest: 1,
     odd_length: 8,
     ..EVEN
 };
@@ -83,6 +92,7 @@ const REGIMES: Mood = Mood {
 /// No store, so that the first half speaks all the way.
 const QUIET: Mood = Mood {
     store: 0,
+    harvest: 5,
     writes: 0,
     ..EVEN
 };
@@ -95,6 +105,7 @@ const FILL: Mood = Mood {
     other_granule: 0,
     bad_regime: 1,
     bad_access: 1,
+    harvest: 0,
     ..EVEN
 };
 
@@ -176,6 +187,8 @@ enum Planned {
     Number(u64),
     Home,
     Drop,
+    /// A harvest of a few pages around.
+    Harvest(u64),
 }
 
 pub struct Script {
@@ -316,6 +329,11 @@ impl Script {
             (Call::SetRegime(self.draw_bad_regime()), None)
         } else if turn(mood.bad_access) {
             (Call::Access(self.draw_bad_access(session)), None)
+        } else if turn(mood.harvest) {
+            let page = self.draw_page(session);
+            (self.draw_harvest(page, session, memory), None)
+        } else if turn(mood.bad_harvest) {
+            (self.draw_bad_harvest(session), None)
         } else {
             (Call::Access(self.draw_good_access(session)), None)
         }
@@ -336,6 +354,7 @@ impl Script {
             Planned::OtherGranule => self.draw_other_granule(session).0,
             Planned::Home => Call::SetRegime(self.world.regimes[0]),
             Planned::Drop => Call::DropAll,
+            Planned::Harvest(page) => self.draw_harvest(page, session, memory),
             Planned::Write(page) => Call::Access(draw_write(random, granule, page)),
             Planned::Look(page) => Call::Access(draw_access(random, granule, page)),
             Planned::Near(page) => Call::Access(draw_access(random, Granule::Kib4, page)),
@@ -354,6 +373,8 @@ impl Script {
             self.plan_mark(regime, session);
         } else if stores && self.random.once_in(20) {
             self.plan_turn(session);
+        } else if self.random.once_in(16) {
+            self.plan_harvest(session);
         } else if stores && lost && self.random.once_in(8) {
             self.plan_reverse();
         } else if stores && self.world.either_way && self.random.once_in(12) {
@@ -401,7 +422,10 @@ impl Script {
         let look = Planned::Look(page);
         self.plan = vec![look, look, Planned::Turn(page)];
         if self.mood.drop > 0 && self.random.once_in(3) {
-            self.plan.insert(1, Planned::Drop);
+            let emptying =
+                self.random
+                    .pick(&[Planned::Drop, Planned::Drop, Planned::Harvest(page)]);
+            self.plan.insert(1, emptying);
         }
     }
 
@@ -440,6 +464,58 @@ impl Script {
             near,
             write,
         ];
+    }
+
+    /// A page is written, harvested with a few others, and written again; then
+    /// harvested once more, at times after a look.
+    fn plan_harvest(&mut self, session: &Session) {
+        let page = self.draw_page(session);
+        let (write, harvest) = (Planned::Write(page), Planned::Harvest(page));
+        self.plan = vec![harvest, write, harvest, write];
+        if self.random.coin() {
+            self.plan.insert(1, Planned::Look(page));
+        }
+        if self.random.coin() {
+            self.plan.push(Planned::Drop);
+        }
+    }
+
+    /// Pages around one, or all or a part of what its leaf maps, and seldom as
+    /// many as there can be.
+    fn draw_harvest(&mut self, page: u64, session: &Session, memory: &[u8]) -> Call {
+        let regime = session.regime.unwrap_or(self.world.regimes[0]);
+        let random = &mut self.random;
+        let number = page_of(regime.granule, page);
+        let leaf = reached(page, &regime, memory);
+        let level = leaf.filter(|&level| level > 1).unwrap_or(LAST_LEVEL);
+        let block = level < LAST_LEVEL && random.once_in(3);
+        Call::Harvest(match range_of(&regime, number) {
+            Some(own) if random.once_in(150) => {
+                let most = MOST_PAGES.min(own.end - own.start);
+                let first = number.clamp(own.start, own.end - most);
+                with_map(random, first, most)
+            }
+            Some(_) if block => {
+                let span = span_of(regime.granule, level, number);
+                let fit = random.pick(&[Fit::Whole, Fit::Whole, Fit::Before, Fit::Behind]);
+                draw_fitting(random, &regime, &span, fit)
+            }
+            _ => draw_near(random, &regime, number),
+        })
+    }
+
+    /// Refused with 10 or 11.
+    fn draw_bad_harvest(&mut self, session: &Session) -> Call {
+        let page = self.draw_page(session);
+        let regime = session.regime.unwrap_or(self.world.regimes[0]);
+        let random = &mut self.random;
+        let mut asked = draw_near(random, &regime, page_of(regime.granule, page));
+        if random.coin() {
+            spoil_pages(random, &regime, &mut asked);
+        } else {
+            spoil_map(random, &mut asked);
+        }
+        Call::Harvest(asked)
     }
 
     /// The granule of the session, or else that of home.
@@ -569,33 +645,8 @@ impl Script {
 
     /// Makes some row apply.
     fn spoil(&mut self, regime: &mut Regime) {
-        let length = self.world.memory.len();
-        let random = &mut self.random;
-        let range = random.below(2) as usize;
-        let off = draw_off(random, regime.granule);
-        match random.pick(SET_REGIME) {
-            1 => spoil_pool(random, length, regime),
-            2 => match random.below(4) {
-                0 | 1 => regime.pool.address |= off,
-                2 => regime.pool.address = PHYSICAL_LIMIT,
-                _ => regime.pool.address = regime.granule.floor(u64::MAX),
-            },
-            3 => match random.below(3) {
-                0 => regime.ranges[range].t = 15,
-                1 => regime.ranges[range].t = 40,
-                _ => regime.output_code = 6,
-            },
-            4 => match random.below(3) {
-                0 | 1 => regime.ranges[range].root |= off,
-                _ => regime.ranges[range].root |= 1 << random.between(48, 63),
-            },
-            5 => {
-                let byte = random.pick(&[0x01, 0x0F, 0x10, 0x40, 0xF0]);
-                regime.attributes[random.below(8) as usize] = byte;
-            }
-            13 => (regime.ha, regime.hd) = HD_ALONE,
-            row => panic!("no regime is made for row {row}"),
-        }
+        let row = self.random.pick(SET_REGIME);
+        spoil(&mut self.random, row, self.world.memory.len(), regime);
     }
 
     fn draw_store(&mut self, session: &Session, memory: &[u8]) -> Call {
@@ -728,32 +779,6 @@ impl Script {
     }
 }
 
-/// A number that is no multiple of a granule, but mostly one of a smaller
-/// granule, where there is one.
-fn draw_off(random: &mut Random, granule: Granule) -> u64 {
-    let bits = granule.page_bits();
-    1 << random.pick(&[3, bits - 4, bits - 4, bits - 2, bits - 1])
-}
-
-/// Makes row 1 apply to a regime, over a memory of some length.
-fn spoil_pool(random: &mut Random, memory_length: usize, regime: &mut Regime) {
-    let (pool, page) = (&mut regime.pool, regime.granule.length());
-    let off = draw_off(random, regime.granule) as usize;
-    match random.below(8) {
-        0 => pool.start += off,
-        // It ends in the memory, if it can.
-        1 | 2 => {
-            pool.start += off;
-            pool.length = pool.length.saturating_sub(page).max(page);
-        }
-        3 => pool.length = 0,
-        4 => pool.length = POOL_LIMIT + page,
-        5 => pool.start = memory_length / page * page,
-        6 => pool.start = usize::MAX - (page - 1),
-        _ => pool.length = pool.length.saturating_sub(off),
-    }
-}
-
 /// A write or update in a page, mostly from EL1, and half of the time at its
 /// second byte.
 fn draw_write(random: &mut Random, granule: Granule, page: u64) -> Access {
@@ -775,6 +800,14 @@ fn follow(page: u64, regime: &Regime, memory: &[u8]) -> (Vec<u64>, bool) {
     let reached =
         fits && find_leaf(pool_reader(memory, regime), regime, page, &mut visited).is_ok();
     (visited, reached)
+}
+
+/// The level of the leaf that a page reaches, if it does.
+fn reached(page: u64, regime: &Regime, memory: &[u8]) -> Option<u8> {
+    let (visited, is_leaf) = follow(page, regime, memory);
+    let t = range_at(regime, page).t;
+    let first = usize::from(regime.granule.first_level(t));
+    is_leaf.then(|| (first + visited.len() - 1) as u8)
 }
 
 fn way_to(page: u64, regime: &Regime, memory: &[u8]) -> Vec<u64> {

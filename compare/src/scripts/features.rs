@@ -1,6 +1,7 @@
 //! What scripts can meet.
 
 use super::granules::{self, Granular};
+use super::harvests::Harvested;
 use super::orders::{self, Ordered};
 use super::play::Bytes;
 use crate::boundary::{FAULT, SUCCESS, SUM_BITS};
@@ -10,7 +11,7 @@ use crate::geometry::Granule;
 use crate::limits::{Limit, Octave};
 use crate::orders::with_each_order;
 use crate::reference::{FaultKind, Kind, POOL_LIMIT, TAKING};
-use crate::refusals::{pairs, ACCESS, SET_REGIME, STORE};
+use crate::refusals::{pairs, ACCESS, HARVEST, SESSION_HARVEST, SET_REGIME, STORE};
 use crate::rule3::Class;
 use crate::tally::{level_name, under, End};
 use std::collections::BTreeSet;
@@ -86,6 +87,7 @@ pub enum Since {
     RefusedStore,
     RefusedRegime,
     RefusedAccess,
+    RefusedHarvest,
     /// Another page at the place, not remembered.
     PasserBy,
     /// A walk of the page itself, not remembered.
@@ -98,6 +100,16 @@ pub enum Emptying {
     DropAll,
     SameRegime,
     OtherRegime,
+    Harvest,
+}
+
+impl Emptying {
+    const ALL: [Emptying; 4] = [
+        Emptying::DropAll,
+        Emptying::SameRegime,
+        Emptying::OtherRegime,
+        Emptying::Harvest,
+    ];
 }
 
 /// The calls that row 1 is for.
@@ -106,6 +118,7 @@ pub enum Asked {
     SetRegime,
     Access,
     Store,
+    Harvest,
 }
 
 #[derive(Clone, Copy, Debug, PartialEq, Eq, PartialOrd, Ord)]
@@ -182,6 +195,14 @@ pub enum Foreign {
     OffRoot(Granule),
     /// A hit, or a walk to a leaf, by the byte above 2 that says the granule.
     GranuleByte(u8),
+    /// The reply to a harvest.
+    Harvest(u8),
+    /// A refusal of a harvest, and a later row that applies too.
+    HarvestRow(u8, u8),
+    /// A harvest that is accepted, and leaves entries empty that were not.
+    HarvestEmpties,
+    /// A leaf that is cleaned with EE spelled with a byte other than 1.
+    OddEeCleaned,
 }
 
 impl Foreign {
@@ -196,12 +217,19 @@ impl Foreign {
             Foreign::AccessFlag,
             Foreign::OddEeWalked,
             Foreign::OddEeStored,
+            Foreign::OddEeCleaned,
+            Foreign::HarvestEmpties,
+            Foreign::Harvest(0),
         ];
+        let harvests = SESSION_HARVEST.iter().copied().map(Foreign::Harvest);
         let of_order = [Foreign::HitWith, Foreign::WalkedWith, Foreign::StoredWith];
         let orders = of_order.into_iter().flat_map(|of| [of(false), of(true)]);
         let sums = (0..=SUM_BITS).map(Foreign::Sum);
         let bytes = (3..=0xFF).map(Foreign::GranuleByte);
         let each = sums.chain(alone).chain(under).chain(orders).chain(bytes);
+        let rows = pairs(HARVEST).chain([(9, 11)]);
+        let rows = rows.map(|(row, other)| Foreign::HarvestRow(row, other));
+        let each = each.chain(harvests).chain(rows);
         each.chain(Granule::ALL.into_iter().flat_map(Foreign::under))
     }
 
@@ -235,6 +263,7 @@ pub enum Feature {
     Off(Off),
     /// Drop all, with or without a regime; with or without a page held.
     DropAll(bool, bool),
+    Harvested(Harvested),
     Refused(u8),
     /// A refused access of a held page.
     RefusedHeld(u8),
@@ -292,6 +321,7 @@ impl fmt::Display for Feature {
             F::Store(number) | F::Refused(number) | F::RefusedHeld(number) => {
                 write!(out, "no. {number}")
             }
+            F::Harvested(what) => write!(out, "{what}"),
             F::Into(target) => write!(out, "{target:?}"),
             F::Effect(effect) => write!(out, "{effect:?}"),
             F::Off(off) => write!(out, "{off:?}"),
@@ -338,6 +368,7 @@ impl Countable for Feature {
             F::Effect(_) => "stores into the leaf of a held page",
             F::Off(_) => "stores refused with 8",
             F::DropAll(..) => "drops, with and without a regime / a held page",
+            F::Harvested(what) => what.heading(),
             F::Refused(_) => "accesses refused",
             F::RefusedHeld(_) => "accesses of a held page refused",
             F::Ended(_) => "accesses answered",
@@ -371,6 +402,7 @@ impl Countable for Feature {
         hits(&mut all);
         walks(&mut all);
         lengths(&mut all);
+        all.extend(Harvested::all().into_iter().map(F::Harvested));
         all.extend(with_each_order(Ordered::all()).map(|(ee, what)| F::Ordered(ee, what)));
         for granule in Granule::ALL {
             let granular = Granular::all(granule).into_iter();
@@ -459,6 +491,7 @@ fn hits(all: &mut BTreeSet<Feature>) {
     }
     all.extend([Since::Store, Since::RefusedStore, Since::RefusedRegime].map(F::HitSince));
     all.extend([Since::RefusedAccess, Since::PasserBy, Since::FailedRewalk].map(F::HitSince));
+    all.insert(F::HitSince(Since::RefusedHarvest));
     all.insert(F::Stale(End::Success));
     all.extend(FaultKind::ALL.map(|kind| F::Stale(End::Fault(kind))));
     all.extend([Odd::ReadTwice, Odd::DirtiedElsewhere, Odd::OtherAddress].map(F::Odd));
@@ -501,24 +534,25 @@ fn walks(all: &mut BTreeSet<Feature>) {
             }
         }
     }
-    for by in [
-        Emptying::DropAll,
-        Emptying::SameRegime,
-        Emptying::OtherRegime,
-    ] {
+    for by in Emptying::ALL {
         all.extend([F::Emptied(by), F::OtherSum(by)]);
     }
 }
 
 /// What has to do with the lengths of memory and pool.
 fn lengths(all: &mut BTreeSet<Feature>) {
-    for asked in [Asked::SetRegime, Asked::Access, Asked::Store] {
+    for asked in [
+        Asked::SetRegime,
+        Asked::Access,
+        Asked::Store,
+        Asked::Harvest,
+    ] {
         all.extend(Limit::KEPT.map(|limit| F::Limit(asked, limit)));
         all.extend(Limit::OF_MEMORY.map(|limit| F::Limit(asked, limit)));
     }
     // The pool of a session has passed no limit.
     all.extend(Limit::OF_POOL.map(|limit| F::Limit(Asked::SetRegime, limit)));
-    for asked in [Asked::Access, Asked::Store] {
+    for asked in [Asked::Access, Asked::Store, Asked::Harvest] {
         all.extend(Limit::OF_ADDRESS.map(|limit| F::Limit(asked, limit)));
     }
     all.extend(Octave::all(POOL_LIMIT).map(F::Marked));

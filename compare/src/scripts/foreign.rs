@@ -1,20 +1,60 @@
 //! Sessions of any bytes, as no call leaves them (RULES 10.5), and a few calls
 //! on each. Rule 3 does not speak of them.
 
-use super::play::{ask, differences, Arena};
+use super::play::{ask, differences, Maps};
 use super::tally::Tally;
 use super::world::{draw_usable_leaf, vary, Leaves, World};
+use crate::arena::Arena;
 use crate::boundary::{CEntry, CSession, Spelling, Subject, SUM_BITS};
 use crate::cases::scene::{draw_access, draw_table, HD_ALONE};
 use crate::geometry::{Granule, PHYSICAL_LIMIT};
+use crate::harvest::{draw_near, spoil_map, spoil_pages};
 use crate::random::Random;
 use crate::reference::Regime;
+use crate::refusals::{pairs, HARVEST, SET_REGIME};
 use crate::session::{first_of, page_of, Call, Session, PLACES};
+use crate::spoil::spoil;
 use std::array;
 
 const FAMILY: &str = "foreign";
 const SESSIONS: u64 = 1_400;
 const CALLS: u32 = 24;
+/// So often any two rows apply to the harvests of a session.
+const ROWS: u64 = 8;
+const ROWS_CALLS: u32 = 2;
+
+/// What a session is made for.
+#[derive(Clone, Copy)]
+enum Sort {
+    Any,
+    /// A byte above 2 says the granule; the session is to be kept.
+    Byte(u8),
+    /// Harvests to which two rows apply.
+    Rows(u8, u8),
+}
+
+impl Sort {
+    /// In the first sessions each byte above 2 says 4 KiB in turn; behind the
+    /// last of any sort there are any two rows in turn.
+    fn of(number: u64) -> Sort {
+        let rows: Vec<(u8, u8)> = pairs(HARVEST).collect();
+        match u8::try_from(number + 2) {
+            Ok(byte) => Sort::Byte(byte),
+            Err(_) if number <= SESSIONS => Sort::Any,
+            Err(_) => {
+                let (row, other) = rows[number as usize % rows.len()];
+                Sort::Rows(row, other)
+            }
+        }
+    }
+
+    fn calls(self) -> u32 {
+        match self {
+            Sort::Rows(..) => ROWS_CALLS,
+            _ => CALLS,
+        }
+    }
+}
 
 /// A session of any bytes, held against what the reference reads in them.
 struct Guest<S> {
@@ -33,10 +73,12 @@ pub fn run_all<S: Subject>(
     fresh: impl Fn(u64) -> Result<S, String>,
     tally: &mut Tally,
 ) -> Result<(), String> {
-    for number in 1..=SESSIONS {
+    let rows = pairs(HARVEST).count() as u64 * ROWS;
+    for number in 1..=SESSIONS + rows {
         tally.begin(FAMILY);
         let mut random = Random::new(random.bits());
-        let (world, bytes) = draw(&mut random, number);
+        let sort = Sort::of(number);
+        let (world, bytes) = draw(&mut random, sort);
         let mut subject = fresh(random.bits())?;
         subject.put(&bytes);
         let mut guest = Guest {
@@ -47,9 +89,8 @@ pub fn run_all<S: Subject>(
             memory: world.memory.clone(),
             calls: Vec::new(),
         };
-        for _ in 0..CALLS {
-            let keep = byte_of(number).is_some();
-            let call = guest.draw_call(&mut random, &world, keep);
+        for _ in 0..sort.calls() {
+            let call = guest.draw_call(&mut random, &world, sort);
             let spelling = Spelling::draw(&mut random);
             if trace {
                 eprintln!("session {number} of any bytes: {call:x?}");
@@ -71,15 +112,27 @@ impl<S: Subject> Guest<S> {
     ) -> Result<(), Vec<String>> {
         self.calls.push(call);
         let before = self.session.clone();
-        let (wanted, seen) = ask(&mut self.session, &mut self.memory[..length], &call);
-        let got = self.subject.call(self.arena.lend(length), &call, spelling);
+        let found = match call {
+            Call::Harvest(_) => self.memory.clone(),
+            _ => Vec::new(),
+        };
+        let mut maps = Maps::new(&call, 0);
+        let lent = &mut self.memory[..length];
+        let (wanted, seen) = ask(&mut self.session, lent, &mut maps.wanted, &call);
+        let lent = self.arena.lend(length);
+        let got = self.subject.call(lent, maps.lend(), &call, spelling);
         let mut why = differences(&wanted, &got, &self.memory, &self.arena);
+        why.extend(maps.differences());
         why.extend(self.subject.wrong_bytes(&call, &got));
         why.extend(self.subject.wrong_session(&self.session));
         if !why.is_empty() {
             return Err(why);
         }
         tally.note_foreign(&self.bytes, &before, length, &call, &got, seen.as_ref());
+        if let Call::Harvest(asked) = call {
+            let cleaned = found != self.memory;
+            tally.note_foreign_harvest(&self.bytes.regime, &before, length, &asked, cleaned);
+        }
         Ok(())
     }
 
@@ -91,11 +144,19 @@ impl<S: Subject> Guest<S> {
 
     /// Mostly an access of a page that one of the entries names. None that
     /// empties the entries, where the session is to be kept.
-    fn draw_call(&self, random: &mut Random, world: &World, keep: bool) -> Call {
+    fn draw_call(&self, random: &mut Random, world: &World, sort: Sort) -> Call {
+        let keep = matches!(sort, Sort::Byte(_));
+        if let Sort::Rows(row, other) = sort {
+            return self.draw_harvest(random, world, &[row, other]);
+        }
         match random.below(24) {
             0 if !keep => Call::DropAll,
             1 if !keep => Call::SetRegime(random.pick(&world.regimes)),
             2 | 3 => self.draw_store(random, world),
+            4 if !keep => {
+                let rows = random.pick(&[&[][..], &[], &[10], &[11], &[10, 11]]);
+                self.draw_harvest(random, world, rows)
+            }
             _ => {
                 let granule = self.granule(world);
                 let named = random.pick(&self.bytes.entries).page;
@@ -106,6 +167,20 @@ impl<S: Subject> Guest<S> {
                 Call::Access(draw_access(random, granule, page))
             }
         }
+    }
+
+    /// A harvest to which rows apply, those of the regime apart.
+    fn draw_harvest(&self, random: &mut Random, world: &World, rows: &[u8]) -> Call {
+        let regime = self.session.regime.unwrap_or(world.regimes[0]);
+        let page = page_of(regime.granule, random.pick(&world.pages));
+        let mut asked = draw_near(random, &regime, page);
+        if rows.contains(&10) {
+            spoil_pages(random, &regime, &mut asked);
+        }
+        if rows.contains(&11) {
+            spoil_map(random, &mut asked);
+        }
+        Call::Harvest(asked)
     }
 
     fn draw_store(&self, random: &mut Random, world: &World) -> Call {
@@ -136,30 +211,31 @@ impl<S: Subject> Guest<S> {
     }
 }
 
-/// In the first sessions each byte above 2 says 4 KiB in turn.
-fn byte_of(number: u64) -> Option<u8> {
-    u8::try_from(number + 2).ok()
-}
-
-/// A world and a session in it; where a byte is to say the granule, home is
-/// its regime.
-fn draw(random: &mut Random, number: u64) -> (World, CSession) {
+/// A world and a session in it; where it is made for something, home is its
+/// regime, but for what rows are to refuse.
+fn draw(random: &mut Random, sort: Sort) -> (World, CSession) {
     let others = [Granule::Kib16, Granule::Kib64];
-    let byte = byte_of(number);
-    let granule = match byte {
-        None if random.coin() => random.pick(&others),
+    let granule = match sort {
+        Sort::Any | Sort::Rows(..) if random.coin() => random.pick(&others),
         _ => Granule::Kib4,
     };
     let world = World::planned(random, granule, Leaves::Mixed);
     let mut bytes = draw_bytes(random, &world);
-    if let Some(kib_4) = byte {
-        let spelling = Spelling {
-            kib_4,
-            ..Spelling::draw(random)
-        };
-        bytes.regime = spelling.regime(&world.regimes[0]);
-        bytes.set = 1;
+    let mut spelling = Spelling::draw(random);
+    let mut regime = world.regimes[0];
+    match sort {
+        Sort::Any => return (world, bytes),
+        Sort::Byte(kib_4) => spelling.kib_4 = kib_4,
+        Sort::Rows(row, other) => {
+            // The first row last, so that its reason surely stands.
+            let of_regime = |row: &u8| SET_REGIME.contains(row);
+            for row in [other, row].into_iter().filter(of_regime) {
+                spoil(random, row, world.memory.len(), &mut regime);
+            }
+        }
     }
+    bytes.regime = spelling.regime(&regime);
+    bytes.set = 1;
     (world, bytes)
 }
 

@@ -57,6 +57,10 @@ pub enum Granular {
     HeldBefore(Granule),
     /// A walk of a page with the number of one that was.
     SameNumber(Granule),
+    /// The reply to a harvest.
+    Harvest(u8),
+    /// A harvest that cleans a leaf of a level.
+    Cleaned(u8),
 }
 
 impl Granular {
@@ -66,6 +70,10 @@ impl Granular {
         all.extend(SET_REGIME.iter().copied().map(Granular::Set));
         all.extend([0, 1, 8].map(Granular::Store));
         all.extend([1, 6, 7].map(Granular::Refused));
+        all.extend([0, 1, 10, 11].map(Granular::Harvest));
+        // No harvest has all of what a leaf of level 1 maps.
+        let cleaned = granule.leaf_levels().filter(|level| *level > 1);
+        all.extend(cleaned.map(Granular::Cleaned));
         for smaller in granule.smaller() {
             all.extend(Field::ALL.map(|field| Granular::Off(field, smaller)));
             all.extend([Granular::Across(smaller), Granular::OnePage(smaller)]);
@@ -123,6 +131,9 @@ impl fmt::Display for Granular {
             Granular::Rewalk => write!(out, "Rewalk"),
             Granular::Turned(from) => write!(out, "Turned from {from}"),
             Granular::HeldBefore(from) => write!(out, "Held with {from}"),
+            Granular::Harvest(0) => write!(out, "Harvest accepted"),
+            Granular::Harvest(number) => write!(out, "Harvest no. {number}"),
+            Granular::Cleaned(level) => write!(out, "Cleaned at level {level}"),
             Granular::SameNumber(from) => write!(out, "Number held with {from}"),
         }
     }

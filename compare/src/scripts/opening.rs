@@ -4,9 +4,10 @@
 
 use super::world::{Ends, World};
 use crate::cases::scene::{draw_access, draw_marking_access};
+use crate::harvest::draw_near;
 use crate::random::Random;
 use crate::reference::Regime;
-use crate::session::Call;
+use crate::session::{page_of, Call};
 
 /// The calls, each with the length that it is lent.
 pub fn draw(random: &mut Random, world: &World, ends: &Ends) -> Vec<(Call, usize)> {
@@ -19,6 +20,8 @@ pub fn draw(random: &mut Random, world: &World, ends: &Ends) -> Vec<(Call, usize
     let behind = Call::Access(draw_access(random, granule, ends.behind));
     let store = store_at(random, end - 8);
     let store_behind = store_at(random, end);
+    let harvest = harvest_of(random, &home, ends.last);
+    let harvest_behind = harvest_of(random, &home, ends.behind);
     vec![
         (access, all),
         (store, all),
@@ -31,12 +34,23 @@ pub fn draw(random: &mut Random, world: &World, ends: &Ends) -> Vec<(Call, usize
         (again, usual),
         (again, usual - 1),
         (again, all),
+        (harvest, usual - 1),
+        (harvest, all),
+        (harvest, usual),
+        (access, usual),
+        (harvest_behind, usual),
         (store, usual),
         (store, usual - 1),
         (store, all),
         (store_behind, usual),
         (behind, usual),
     ]
+}
+
+/// A few pages with one among them.
+fn harvest_of(random: &mut Random, regime: &Regime, page: u64) -> Call {
+    let number = page_of(regime.granule, page);
+    Call::Harvest(draw_near(random, regime, number))
 }
 
 fn store_at(random: &mut Random, address: u64) -> Call {

@@ -33,6 +33,10 @@ pub enum Ordered {
     StoredBefore,
     /// A mark in a leaf stored in the other order.
     MarksStored,
+    /// The reply to a harvest.
+    Harvest(u8),
+    /// A harvest that cleans a leaf.
+    Cleaned,
 }
 
 impl Ordered {
@@ -47,6 +51,8 @@ impl Ordered {
         all.extend([(true, false), (false, true), (true, true)].map(|(a, d)| Ordered::Marks(a, d)));
         all.extend([Ordered::Turned, Ordered::HeldBefore]);
         all.extend([Ordered::StoredBefore, Ordered::MarksStored]);
+        all.extend([0, 1, 10, 11].map(Ordered::Harvest));
+        all.push(Ordered::Cleaned);
         all
     }
 }
@@ -56,6 +62,8 @@ impl fmt::Display for Ordered {
         match *self {
             Ordered::Store(0) => write!(out, "Store accepted"),
             Ordered::Store(number) => write!(out, "Store no. {number}"),
+            Ordered::Harvest(0) => write!(out, "Harvest accepted"),
+            Ordered::Harvest(number) => write!(out, "Harvest no. {number}"),
             Ordered::Hit(end) => write!(out, "Hit {end}"),
             Ordered::Walked(end) => write!(out, "Walked {end}"),
             Ordered::Marks(accessed, dirtied) => {

@@ -4,6 +4,7 @@
 use super::calls::Script;
 use super::tally::Tally;
 use super::Step;
+use crate::arena::Arena;
 use crate::boundary::{plain_answer, Reply, Spelling, Subject};
 use crate::cases::scene::{draw_access_of, Scene};
 use crate::geometry::Granule;
@@ -46,41 +47,30 @@ impl Bytes {
 /// For each so many bytes of memory, fewer pages are asked for after a script.
 const LONG_MEMORY: usize = 1 << 16;
 
-/// Bytes kept on both sides of the memory; nobody may touch them.
-const MARGIN: usize = 64;
-const MARGIN_BYTE: u8 = 0xA5;
-
-/// The memory of the one under test, between its margins.
-pub struct Arena {
-    bytes: Vec<u8>,
-    start: usize,
+/// The maps of a call: the reference's, and that of the one under test. They are
+/// empty where the call has none.
+pub(super) struct Maps {
+    pub wanted: Vec<u8>,
+    arena: Arena,
 }
 
-impl Arena {
-    /// The memory starts at any byte, aligned or not.
-    pub fn new(memory: &[u8], shift: usize) -> Self {
-        let start = MARGIN + shift;
-        let mut bytes = vec![MARGIN_BYTE; start + memory.len() + MARGIN];
-        bytes[start..start + memory.len()].copy_from_slice(memory);
-        Arena { bytes, start }
+impl Maps {
+    pub fn new(call: &Call, shift: usize) -> Self {
+        let wanted = call.map();
+        let arena = Arena::new(&wanted, shift);
+        Maps { wanted, arena }
     }
 
-    fn end(&self) -> usize {
-        self.bytes.len() - MARGIN
+    pub fn lend(&mut self) -> &mut [u8] {
+        self.arena.lend(self.wanted.len())
     }
 
-    pub fn memory(&self) -> &[u8] {
-        &self.bytes[self.start..self.end()]
+    fn left(&self) -> &[u8] {
+        self.arena.memory()
     }
 
-    pub fn lend(&mut self, length: usize) -> &mut [u8] {
-        &mut self.bytes[self.start..][..length]
-    }
-
-    pub fn margins_stand(&self) -> bool {
-        let before = &self.bytes[..self.start];
-        let behind = &self.bytes[self.end()..];
-        before.iter().chain(behind).all(|&b| b == MARGIN_BYTE)
+    pub fn differences(&self) -> Vec<String> {
+        self.arena.differences("map", &self.wanted)
     }
 }
 
@@ -132,14 +122,19 @@ impl<'a, S: Subject> Play<'a, S> {
         let at = self.history.events().len();
         self.trace(&format!("call {}", at + 1), step);
         let before = self.session.clone();
+        let mut maps = Maps::new(&step.call, self.arena.shift());
         let lent = &mut self.memory[..step.lent];
-        let (wanted, seen) = ask(&mut self.session, lent, &step.call);
+        let (wanted, seen) = ask(&mut self.session, lent, &mut maps.wanted, &step.call);
         let lent = self.arena.lend(step.lent);
-        let got = self.subject.call(lent, &step.call, step.spelling);
+        let got = self
+            .subject
+            .call(lent, maps.lend(), &step.call, step.spelling);
         let after = self.arena.memory();
-        self.history.record(step.call, got, step.lent, after);
+        self.history
+            .record(step.call, got, step.lent, after, maps.left());
 
         let mut why = differences(&wanted, &got, &self.memory, &self.arena);
+        why.extend(maps.differences());
         why.extend(self.subject.wrong_bytes(&step.call, &got));
         why.extend(self.subject.wrong_session(&self.session));
         match self.history.check(at) {
@@ -167,7 +162,7 @@ impl<'a, S: Subject> Play<'a, S> {
         };
         for bytes in Bytes::ALL {
             let memory = bytes.fill(&mut script.random, &self.memory, &home);
-            let mut scratch = Scratch::new(&memory, self.arena.start - MARGIN);
+            let mut scratch = Scratch::new(&memory, self.arena.shift());
             for &page in &pages {
                 for kind in Kind::ALL {
                     let access = draw_access_of(&mut script.random, granule, page, kind);
@@ -213,9 +208,10 @@ impl<'a, S: Subject> Play<'a, S> {
     ) -> Result<(), Vec<String>> {
         let mut session = self.session.clone();
         let mut subject = self.subject.clone();
-        let (wanted, _) = ask(&mut session, &mut scratch.memory[..step.lent], &step.call);
+        let lent = &mut scratch.memory[..step.lent];
+        let (wanted, _) = ask(&mut session, lent, &mut [], &step.call);
         let lent = scratch.arena.lend(step.lent);
-        let got = subject.call(lent, &step.call, step.spelling);
+        let got = subject.call(lent, &mut [], &step.call, step.spelling);
         let mut why = differences(&wanted, &got, &scratch.memory, &scratch.arena);
         why.extend(subject.wrong_bytes(&step.call, &got));
         why.extend(subject.wrong_session(&session));
@@ -317,6 +313,7 @@ fn makes_marks(reply: &Reply) -> bool {
 pub(super) fn ask(
     session: &mut Session,
     memory: &mut [u8],
+    map: &mut [u8],
     call: &Call,
 ) -> (Reply, Option<(Answer, Way)>) {
     match call {
@@ -336,6 +333,10 @@ pub(super) fn ask(
             session.drop_all();
             (Reply::Dropped, None)
         }
+        Call::Harvest(asked) => {
+            let refusal = session.harvest(memory, asked, map);
+            (Reply::Changed(refusal.unwrap_or(0)), None)
+        }
     }
 }
 
@@ -351,11 +352,6 @@ pub(super) fn differences(
             "the replies differ: the reference's is {wanted:x?}, the other {got:x?}"
         ));
     }
-    if arena.memory() != memory {
-        why.push("the memories differ".to_string());
-    }
-    if !arena.margins_stand() {
-        why.push("bytes beside the memory were written".to_string());
-    }
+    why.extend(arena.differences("memory", memory));
     why
 }

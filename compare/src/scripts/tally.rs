@@ -5,8 +5,9 @@ use super::features::{
     Asked, Before, Effect, Emptying, Feature, Feature as F, Foreign, Odd, Off, Since, Sum, Switch,
     Target,
 };
+use super::harvests::Reaped;
 use super::play::Bytes;
-use super::{granules, orders, Step};
+use super::{granules, harvests, orders, Step};
 use crate::boundary::{
     plain_answer, CAnswer, CEntry, CRegime, CSession, Reply, FAULT, REFUSED, SUCCESS, SUM_BITS,
 };
@@ -14,12 +15,13 @@ use crate::counts::{report_families, Counts};
 use crate::decisions::{decided, succeeds};
 use crate::geometry::{Granule, PHYSICAL_LIMIT};
 use crate::granules::Field;
+use crate::harvest::Harvest;
 use crate::limits::{self, Limit, Octave};
 use crate::reference::{
     bit, look, offset_in_memory, read_descriptor, writable_clean, Access, Answer, FaultKind, Kind,
     Leaf, Regime, Walk, AF, AP2, AP_TABLE_1, MEMORY_LIMIT, PXN_TABLE, TAKING,
 };
-use crate::refusals::{all_of_set_regime, finds_no_table, row_1};
+use crate::refusals::{all_of_session_harvest, all_of_set_regime, finds_no_table, row_1};
 use crate::rule3::{Checked, Class, Event, History};
 use crate::session::{first_of, page_of, place_of, Call, Held, Session, Way};
 use crate::tally::End;
@@ -72,6 +74,18 @@ impl Tally {
         if session.places.iter().flatten().count() > 24 {
             self.meet(F::Odd(Odd::ManyHeld));
         }
+        self.note_call(history, event, session, seen, checked);
+    }
+
+    /// What the call is, and what came of it.
+    fn note_call(
+        &mut self,
+        history: &History,
+        event: &Event,
+        session: &Session,
+        seen: Option<&(Answer, Way)>,
+        checked: &Checked,
+    ) {
         match (event.call, event.reply) {
             (Call::SetRegime(regime), Reply::Changed(number)) => {
                 self.meet(F::SetRegime(session.regime.is_some(), number));
@@ -88,6 +102,10 @@ impl Tally {
                     (Some(regime), 8) => self.note_off(&regime, address),
                     _ => {}
                 }
+            }
+            (Call::Harvest(asked), Reply::Changed(number)) => {
+                let met = harvests::of(history, session, &asked, number);
+                met.into_iter().for_each(|feature| self.meet(feature));
             }
             (Call::DropAll, _) => {
                 let held = session.places.iter().any(Option::is_some);
@@ -135,6 +153,7 @@ impl Tally {
                 (Asked::SetRegime, Some(regime), number)
             }
             (Call::Store { .. }, Reply::Changed(number)) => (Asked::Store, session.regime, number),
+            (Call::Harvest(_), Reply::Changed(number)) => (Asked::Harvest, session.regime, number),
             (Call::Access(_), Reply::Answered(answer)) => {
                 (Asked::Access, session.regime, answer.refusal)
             }
@@ -360,6 +379,7 @@ impl Tally {
                 (Call::Store { .. }, true) => since.insert(Since::Store),
                 (Call::Store { .. }, false) => since.insert(Since::RefusedStore),
                 (Call::SetRegime(_), _) => since.insert(Since::RefusedRegime),
+                (Call::Harvest(_), _) => since.insert(Since::RefusedHarvest),
                 (Call::Access(_), false) => since.insert(Since::RefusedAccess),
                 (Call::Access(other), true) if event.rememberable().is_none() => {
                     let passed = page_of(regime.granule, other.address);
@@ -497,9 +517,14 @@ impl Tally {
             let by = match history.events()[emptying].call {
                 Call::SetRegime(regime) if past.regime() == Some(regime) => Emptying::SameRegime,
                 Call::SetRegime(_) => Emptying::OtherRegime,
+                Call::Harvest(_) => Emptying::Harvest,
                 _ => Emptying::DropAll,
             };
             self.meet(F::Emptied(by));
+            let marked = matches!(walk.answer, Answer::Success(success) if success.dirtied);
+            if by == Emptying::Harvest && marked {
+                self.meet(harvests::reaped(Reaped::MarkedAgain));
+            }
             if let (Some(was), Some((now, _))) = (held_sum(history, emptying, access), walk.leaf) {
                 if was != now.taken {
                     self.meet(F::OtherSum(by));
@@ -545,6 +570,28 @@ impl Tally {
                     self.meet(F::Foreign(Foreign::NoLevel));
                 }
             }
+        }
+    }
+
+    /// A harvest on such a session, and whether it cleaned a leaf.
+    pub fn note_foreign_harvest(
+        &mut self,
+        bytes: &CRegime,
+        session: &Session,
+        lent: usize,
+        asked: &Harvest,
+        cleaned: bool,
+    ) {
+        let mut rows = all_of_session_harvest(lent, session.regime.as_ref(), asked);
+        let number = rows.next().unwrap_or(0);
+        self.meet(F::Foreign(Foreign::Harvest(number)));
+        rows.for_each(|other| self.meet(F::Foreign(Foreign::HarvestRow(number, other))));
+        if number == 0 && session.places.iter().any(Option::is_some) {
+            self.meet(F::Foreign(Foreign::HarvestEmpties));
+        }
+        // Until a regime is set.
+        if cleaned && bytes.ee > 1 && session.regime == Some(bytes.read()) {
+            self.meet(F::Foreign(Foreign::OddEeCleaned));
         }
     }
 

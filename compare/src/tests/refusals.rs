@@ -1,8 +1,11 @@
 //! The orders of the refusals.
 
 use super::{access, start};
+use crate::harvest::{Fill, Harvest};
 use crate::reference::{Access, Kind, Regime};
-use crate::refusals::{self, is_before, pairs, ACCESS, SET_REGIME, STORE, WALK};
+use crate::refusals::{
+    self, is_before, pairs, ACCESS, HARVEST, SESSION_HARVEST, SET_REGIME, STORE, WALK,
+};
 use std::collections::BTreeSet;
 
 #[test]
@@ -23,7 +26,7 @@ fn pairs_are_in_order() {
 
 #[test]
 fn no_row_stands_twice() {
-    for order in [WALK, SET_REGIME, ACCESS, STORE] {
+    for order in [WALK, SET_REGIME, ACCESS, STORE, HARVEST, SESSION_HARVEST] {
         let rows: BTreeSet<u8> = order.iter().copied().collect();
         assert_eq!(rows.len(), order.len(), "{order:?}");
     }
@@ -38,6 +41,47 @@ fn no_row_applies_to_a_good_call() {
     assert_eq!(refusals::of_set_regime(length, &regime), None);
     assert_eq!(refusals::of_access(length, set, &read), None);
     assert_eq!(refusals::of_store(length, set, regime.pool.address), None);
+    assert_eq!(refusals::of_harvest(length, &regime, &GOOD), None);
+    assert_eq!(refusals::of_session_harvest(length, set, &GOOD), None);
+}
+
+/// A harvest that no row refuses.
+const GOOD: Harvest = Harvest {
+    first: 0x400,
+    count: 16,
+    room: 2,
+    fill: Fill::Byte(0),
+};
+
+/// The refusals of a plain harvest to which rows apply, and of one in a session.
+fn harvest_refused(rows: &[u8]) -> [Option<u8>; 2] {
+    let (memory, mut regime) = start();
+    let mut asked = GOOD;
+    for &row in rows {
+        match row {
+            10 => asked.first = 1 << 51,
+            11 => asked.room = 1,
+            row => make_apply(row, &mut regime, &mut access(Kind::Read)),
+        }
+    }
+    let length = memory.len();
+    let all: Vec<u8> = refusals::all_of_harvest(length, &regime, &asked).collect();
+    assert_eq!(all.len(), rows.len(), "{rows:?}");
+    let in_session = refusals::of_session_harvest(length, Some(&regime), &asked);
+    let without = refusals::of_session_harvest(length, None, &asked);
+    assert_eq!(without, Some(9), "{rows:?}");
+    [refusals::of_harvest(length, &regime, &asked), in_session]
+}
+
+#[test]
+fn the_first_row_of_a_harvest_wins() {
+    for &row in HARVEST {
+        assert_eq!(harvest_refused(&[row]), [Some(row); 2]);
+    }
+    for (row, other) in pairs(HARVEST) {
+        assert_eq!(harvest_refused(&[other, row]), [Some(row); 2]);
+    }
+    assert_eq!(SESSION_HARVEST.split_first(), Some((&9, HARVEST)));
 }
 
 /// A change that makes a row of the plain walk apply, and no other.

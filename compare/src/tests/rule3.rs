@@ -2,6 +2,7 @@
 
 use super::{access, start};
 use crate::boundary::{plain_answer, CAnswer, CSession, Reply, Spelling, Subject};
+use crate::harvest::{Fill, Harvest};
 use crate::reference::{Access, Kind, Regime};
 use crate::rule3::{Class, History};
 use crate::scripts::{run_all, Tally};
@@ -26,6 +27,10 @@ impl Subject for Mirror {
 
     fn invalidate_all(&mut self) {
         self.0.drop_all();
+    }
+
+    fn harvest(&mut self, memory: &mut [u8], asked: &Harvest, map: &mut [u8]) -> u8 {
+        self.0.harvest(memory, asked, map).unwrap_or(0)
     }
 
     fn put(&mut self, bytes: &CSession) {
@@ -55,8 +60,10 @@ impl List {
 
     /// An honest call, which must keep the rule.
     fn call(&mut self, call: Call) -> CAnswer {
-        let reply = self.session.call(&mut self.memory, &call, Spelling::PLAIN);
-        let broken = self.record(call, reply);
+        let mut map = call.map();
+        let memory = &mut self.memory;
+        let reply = self.session.call(memory, &mut map, &call, Spelling::PLAIN);
+        let broken = self.record_with(call, reply, &map);
         assert_eq!(broken, [""; 0]);
         match reply {
             Reply::Answered(answer) => answer,
@@ -68,10 +75,16 @@ impl List {
         self.call(Call::Access(access(Kind::Read)))
     }
 
-    /// Any reply at all, over the memory as it is; what it breaks.
+    /// Any reply at all, over the memory as it is; what it breaks. A map stays
+    /// as it was lent.
     fn record(&mut self, call: Call, reply: Reply) -> Vec<String> {
+        self.record_with(call, reply, &call.map())
+    }
+
+    /// The same with any map.
+    fn record_with(&mut self, call: Call, reply: Reply, map: &[u8]) -> Vec<String> {
         let lent = self.memory.len();
-        self.history.record(call, reply, lent, &self.memory);
+        self.history.record(call, reply, lent, &self.memory, map);
         let at = self.history.events().len() - 1;
         self.history.check(at).err().unwrap_or_default()
     }
@@ -203,6 +216,102 @@ fn bytes_that_were_not_promised() {
     list.memory[0] ^= 1;
     let broken = list.record(Call::DropAll, Reply::Dropped);
     assert_eq!(broken, ["rule 3: other bytes are promised"]);
+}
+
+/// Of page 0x403 and those around it, with room for 24 pages.
+fn harvest(first: u64, count: u64) -> Call {
+    Call::Harvest(Harvest {
+        first,
+        count,
+        room: 3,
+        fill: Fill::Byte(0xFF),
+    })
+}
+
+#[test]
+fn a_harvest_is_an_emptying() {
+    let mut list = List::new();
+    let hit = list.read();
+    list.call(Call::Access(write()));
+    list.call(harvest(0x3F8, 24));
+    assert_eq!(list.class(&access(Kind::Read)), Some(Class::Nothing));
+    let broken = list.forge(hit);
+    assert!(broken[0].contains("second half, Nothing"), "{broken:?}");
+    // A refused one is none.
+    let mut list = List::new();
+    list.call(harvest(0x3F8, 25));
+    assert_eq!(list.class(&access(Kind::Read)), Some(Class::OneAnswer));
+}
+
+#[test]
+fn a_harvest_is_its_own_drop() {
+    let mut list = List::new();
+    let hit = list.read();
+    list.call(Call::Store {
+        address: 0x4000_3018,
+        value: 0x8000_97C3,
+    });
+    list.call(harvest(0x3F8, 24));
+    let broken = list.forge(hit);
+    let wanted = "rule 3: first half: not the plain walk's answer";
+    assert_eq!(broken[0], wanted, "{broken:?}");
+}
+
+#[test]
+fn forged_harvests_are_told() {
+    let told = |count, number, map: [u8; 3]| {
+        let mut list = List::new();
+        list.call(Call::Access(write()));
+        list.record_with(harvest(0x3F8, count), Reply::Changed(number), &map)
+    };
+    let (bytes, map) = (
+        "rule 3: other bytes are promised",
+        "rule 3: another map is promised",
+    );
+    // The map is right, and the leaf was not set again.
+    assert_eq!(told(12, 0, [0, 8, 0xFF]), [bytes]);
+    let lost = "rule 3: a written page is not reported";
+    assert_eq!(told(12, 0, [0, 0, 0xFF]), [lost, map, bytes]);
+    assert_eq!(told(12, 0, [0, 8, 0]), [map, bytes]);
+    let refused = "rule 3: a harvest is refused wrongly";
+    assert_eq!(told(12, 10, [0xFF; 3]), [refused, map, bytes]);
+    assert_eq!(told(25, 10, [0xFF; 3]), [refused]);
+    assert_eq!(told(25, 11, [0xFF; 3]), [""; 0]);
+    assert_eq!(told(25, 11, [0xFF, 0xFF, 0]), [map]);
+}
+
+/// What a harvest of this moment must report.
+fn owed(list: &List) -> usize {
+    let Call::Harvest(asked) = harvest(0x3F8, 24) else {
+        panic!("no harvest")
+    };
+    list.history.whole().owed(&asked).len()
+}
+
+#[test]
+fn written_pages_are_owed() {
+    let mut list = List::new();
+    assert_eq!(owed(&list), 0);
+    list.call(Call::Access(write()));
+    assert_eq!(owed(&list), 1);
+    list.call(Call::DropAll);
+    list.call(harvest(0x3F8, 25));
+    assert_eq!(owed(&list), 1);
+    // Once it was reported, or after a store, nothing is promised.
+    list.call(harvest(0x3F8, 24));
+    assert_eq!(owed(&list), 0);
+    list.call(Call::Access(write()));
+    assert_eq!(owed(&list), 1);
+    list.call(Call::Store {
+        address: 0x4000_0008,
+        value: 0,
+    });
+    assert_eq!(owed(&list), 0);
+    list.call(Call::Access(write()));
+    assert_eq!(owed(&list), 0);
+    list.call(Call::DropAll);
+    list.call(Call::Access(write()));
+    assert_eq!(owed(&list), 1);
 }
 
 #[test]

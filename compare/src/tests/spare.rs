@@ -7,6 +7,7 @@ use crate::boundary::{
     Spelling, Subject, SUM_BITS,
 };
 use crate::geometry::Granule;
+use crate::harvest::{Fill, Harvest};
 use crate::random::Random;
 use crate::reference::{Kind, Regime, AP_TABLE_1, PXN_TABLE};
 use crate::session::{Call, PLACES};
@@ -96,12 +97,29 @@ unsafe extern "C" fn drop_all(session: *mut CSession) {
     (*session).entries = [EMPTY; PLACES];
 }
 
+unsafe extern "C" fn reap(
+    session: *mut CSession,
+    _: *mut u8,
+    length: usize,
+    _: u64,
+    _: u64,
+    _: *mut u8,
+    _: usize,
+) -> u8 {
+    if length == 0 {
+        return 1;
+    }
+    drop_all(session);
+    0
+}
+
 const HONEST: SessionFunctions = SessionFunctions {
     empty,
     set_regime: set,
     access: fill,
     store,
     invalidate_all: drop_all,
+    harvest: reap,
 };
 
 // And one slip each.
@@ -208,6 +226,48 @@ unsafe extern "C" fn drop_all_and_more(session: *mut CSession) {
     (*session).regime.spare = [0; 4];
 }
 
+unsafe extern "C" fn reap_but_one(
+    session: *mut CSession,
+    _: *mut u8,
+    _: usize,
+    _: u64,
+    _: u64,
+    _: *mut u8,
+    _: usize,
+) -> u8 {
+    let page = (*session).entries[63].page | 1;
+    drop_all(session);
+    (*session).entries[63].page = page;
+    0
+}
+
+unsafe extern "C" fn reap_and_more(
+    session: *mut CSession,
+    _: *mut u8,
+    _: usize,
+    _: u64,
+    _: u64,
+    _: *mut u8,
+    _: usize,
+) -> u8 {
+    drop_all(session);
+    (*session).spare = [0; 7];
+    0
+}
+
+unsafe extern "C" fn empty_refused(
+    session: *mut CSession,
+    _: *mut u8,
+    _: usize,
+    _: u64,
+    _: u64,
+    _: *mut u8,
+    _: usize,
+) -> u8 {
+    drop_all(session);
+    10
+}
+
 unsafe extern "C" fn answer_but_spare(
     _: *mut u8,
     _: usize,
@@ -226,7 +286,8 @@ unsafe extern "C" fn answer_but_spare(
 fn wrong(functions: SessionFunctions, call: Call, lent: usize) -> Option<String> {
     // SAFETY: the functions above write what they are lent to write alone.
     let mut session = unsafe { LibrarySession::fresh(functions, 7) }.unwrap();
-    let reply = session.call(&mut vec![0; lent], &call, NOISY);
+    let mut map = call.map();
+    let reply = session.call(&mut vec![0; lent], &mut map, &call, NOISY);
     let words = session.wrong_bytes(&call, &reply)?;
     Some(words.split(" of").next().unwrap_or_default().to_string())
 }
@@ -241,6 +302,13 @@ const STORE: Call = Call::Store {
     value: 0,
 };
 
+const HARVEST: Call = Call::Harvest(Harvest {
+    first: 0,
+    count: 8,
+    room: 1,
+    fill: Fill::Byte(0),
+});
+
 /// The place of its page is the fourth.
 fn read() -> Call {
     Call::Access(access(Kind::Read))
@@ -248,7 +316,8 @@ fn read() -> Call {
 
 #[test]
 fn honest_functions_pass() {
-    for call in [Call::SetRegime(start().1), read(), STORE, Call::DropAll] {
+    let set = Call::SetRegime(start().1);
+    for call in [set, read(), STORE, Call::DropAll, HARVEST] {
         for lent in [0, 4096] {
             assert_eq!(wrong(HONEST, call, lent), None, "{call:?}");
         }
@@ -290,7 +359,7 @@ fn numbers_kept_as_they_were_spelled_are_told() {
     let told = |spelling| {
         // SAFETY: as above.
         let mut session = unsafe { LibrarySession::fresh(functions, 7) }.unwrap();
-        let reply = session.call(&mut [0; 4096], &call, spelling);
+        let reply = session.call(&mut [0; 4096], &mut [], &call, spelling);
         session.wrong_bytes(&call, &reply)
     };
     assert_eq!(told(NOISY), None);
@@ -320,6 +389,14 @@ fn slips_of_the_others_are_told() {
         ..HONEST
     };
     tells(functions, Call::DropAll, REGIME_SPARE);
+}
+
+#[test]
+fn slips_of_a_harvest_are_told() {
+    let with = |harvest| SessionFunctions { harvest, ..HONEST };
+    tells(with(reap_but_one), HARVEST, entry(63));
+    tells(with(reap_and_more), HARVEST, offset_of!(CSession, spare));
+    tells(with(empty_refused), HARVEST, entry(0) + TABLES);
 }
 
 #[test]

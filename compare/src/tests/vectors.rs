@@ -1,7 +1,8 @@
 //! The reader of vectors: what it reads, what it takes for an error, and that
 //! differences are told. The second program stands in for the library.
 
-use crate::boundary::{CAnswer, CSession, Spelling, Stepper, Subject};
+use crate::boundary::{CAnswer, CSession, Harvester, Spelling, Stepper, Subject};
+use crate::harvest::{self, Harvest};
 use crate::reference::{Access, Regime};
 use crate::session::Session;
 use crate::stepwise;
@@ -148,7 +149,8 @@ fn good_cases_are_held() {
 }
 
 /// The files of the folder `vectors` by name, and the cases that each has.
-const SHIPPED: [(&str, usize); 6] = [
+const SHIPPED: [(&str, usize); 7] = [
+    ("after-q01.txt", 160),
     ("after-q02.txt", 134),
     ("after-q04.txt", 270),
     ("after-q06.txt", 143),
@@ -322,6 +324,134 @@ fn a_walk_a_descriptor_at_a_time_cut_short_is_an_error() {
     }
 }
 
+/// A plain harvest of 9 pages with room for more, one that is refused, and one
+/// in a session.
+const HARVESTS: &str = "\
+case 1 harvest
+memory 0x2000 0
+bytes 0x1000 430400c0000008
+bytes 0x1040 430400c1000008
+regime start=0x1000 length=0x1000 address=0x40000000 root0=0x40000000 t0=36 disabled0=0 root1=0x40000000 t1=36 disabled1=1 code=5 ha=1 hd=1 wxn=0 attributes=ffffffffffffffff
+harvest 0 9 4 0xa5
+answer accepted
+map 0 0000
+end
+case 2 harvest
+memory 0x1000 0
+regime start=0 length=0x1000 address=0x40000000 root0=0x40000000 t0=36 disabled0=0 root1=0x40000000 t1=36 disabled1=1 code=5 ha=1 hd=1 wxn=0 attributes=ffffffffffffffff
+harvest 0x10000 1 0 0
+answer refused 10
+end
+case 3 session
+memory 0x4000 0
+bytes 0 03100040
+bytes 0x1000 03200040
+bytes 0x2010 03300040
+bytes 0x3018 4357008000000800
+harvest 0x400 9 2 0xff
+answer refused 9
+set
+regime start=0 length=0x4000 address=0x40000000 root0=0x40000000 t0=16 disabled0=0 root1=0x40000000 t1=16 disabled1=1 code=5 ha=1 hd=1 wxn=0 attributes=ffffffffffffffff
+answer accepted
+harvest 0x400 9 3 0xff
+answer accepted
+map 0 0800
+change 0x3018 c3
+end
+";
+
+/// What is reported where no party differs over harvests.
+const SAME_HARVESTS: &str = "made.txt: 3 cases, 5 calls, 0 differences";
+
+/// That an edit of the harvests is told in a case, by these words, for each
+/// party.
+fn harvest_differs(old: &str, new: &str, case: u32, words: &str) {
+    assert!(HARVESTS.contains(old), "{old}");
+    let file = open(&HARVESTS.replacen(old, new, 1)).unwrap_or_else(|told| panic!("{told}"));
+    let report = file.hold(&Second);
+    assert_eq!(report.differences.len(), 2, "{new:?}: {report}");
+    let told = &report.differences[0];
+    assert!(told.contains(&format!(", case {case}:")), "{told}");
+    assert!(told.contains(words), "{new:?}: {told}");
+}
+
+#[test]
+fn harvests_are_held() {
+    let report = open(HARVESTS).unwrap().hold(&Second).to_string();
+    assert_eq!(report, SAME_HARVESTS);
+    let map = "bytes of the map differ: 1, the first at offset";
+    harvest_differs("map 0 0000\n", "map 0 00\n", 1, map);
+    harvest_differs("map 0 0000\n", "map 0 000000\n", 1, map);
+    harvest_differs("map 0 0800\n", "map 0 0900\n", 3, map);
+    harvest_differs("map 0 0000\n", "", 1, "of the map differ: 2,");
+    harvest_differs("length=0x1000", "length=0", 1, "came: refused 1");
+    harvest_differs("refused 10", "refused 11", 2, "came: refused 10");
+    harvest_differs("refused 9", "accepted", 3, "came: refused 9");
+    harvest_differs("change 0x3018 c3\n", "", 3, "of the memory differ: 1,");
+    harvest_differs(
+        "change 0x3018 c3\n",
+        "change 0x3018 c3\nchange 0 00\n",
+        3,
+        "offset 0x0",
+    );
+}
+
+/// That an edit of the harvests cannot be read, in these words at the end.
+fn harvest_refuses(old: &str, new: &str, what: &str) {
+    assert!(HARVESTS.contains(old), "{old}");
+    let told = open(&HARVESTS.replacen(old, new, 1)).err();
+    let told = told.unwrap_or_else(|| panic!("{new:?} can be read"));
+    assert!(told.ends_with(what), "{new:?}: {told}");
+}
+
+#[test]
+fn lines_of_a_harvest_are_checked() {
+    harvest_refuses("0 9 4 0xa5", "0 9 4", "3 words after `harvest`, not 4");
+    harvest_refuses("9 4 0xa5", "9 4 0x1a5", "too large for its field");
+    harvest_refuses(
+        "9 4 0xa5",
+        "9 0x4000001 0",
+        "a map of more than 67108864 bytes",
+    );
+    harvest_refuses("map 0 0000", "map 3 0000", "bytes outside the map");
+    harvest_refuses("map 0 0000", "map 5 00", "bytes outside the map");
+    harvest_refuses(
+        "map 0 0000",
+        "map 0 0000\nmap 1 00",
+        "a byte of another map of this call",
+    );
+    harvest_refuses(
+        "map 0 0800\nchange 0x3018 c3",
+        "change 0x3018 c3\nmap 0 0800",
+        "due is `set`, `access`, `store`, `drop`, `harvest`, `end`",
+    );
+    harvest_refuses("answer refused 10\n", "", "due is `answer`");
+    harvest_refuses("answer refused 10", "answer ok", "no answer to this call");
+    harvest_refuses("harvest 0 9", "access 0 9", "due is `harvest`");
+    harvest_refuses(
+        "refused 10\n",
+        "refused 10\nharvest 0 1 1 0\n",
+        "due is `end`",
+    );
+    let after_a_set = "answer accepted\nmap 0 00\nharvest 0x400 9 3";
+    harvest_refuses(
+        "answer accepted\nharvest 0x400 9 3",
+        after_a_set,
+        "`harvest`, `end`",
+    );
+}
+
+/// Whatever is cut off, the rest is no file, unless whole cases are left.
+#[test]
+fn a_harvest_cut_short_is_an_error() {
+    let ends = HARVESTS.match_indices("end\n");
+    let ends: Vec<usize> = ends.map(|end| end.0 + 4).collect();
+    for length in 1..HARVESTS.len() {
+        let whole = ends.contains(&length);
+        assert_eq!(open(&HARVESTS[..length]).is_ok(), whole, "{length} bytes");
+    }
+}
+
 // ------------------------------------------------------------------- errors
 
 #[test]
@@ -373,7 +503,7 @@ fn lines_out_of_place_are_errors() {
     refuses("visited 0\n", "", &odd("access", "`visited`"));
     refuses("end\n\n", "", &odd("case", "`access`, `end`"));
     refuses("end\n", "end\r\n", &odd("end\\r", "`access`, `end`"));
-    let calls = "`set`, `access`, `store`, `drop`, `end`";
+    let calls = "`set`, `access`, `store`, `drop`, `harvest`, `end`";
     refuses("set\n", "", &odd("regime", calls));
     refuses("drop\n", "switch 1 0 0\n", &odd("switch", calls));
     refuses("drop\n", "visited 0\ndrop\n", &odd("visited", calls));
@@ -382,8 +512,8 @@ fn lines_out_of_place_are_errors() {
 
 #[test]
 fn unknown_words_are_errors() {
-    let kind = "unknown kind of case `harvest`";
-    refuses("case 3 walk", "case 3 harvest", kind);
+    let kind = "unknown kind of case `two-stage`";
+    refuses("case 3 walk", "case 3 two-stage", kind);
     let what = "unknown kind of access `load`";
     refuses("4 0 write", "4 0 load", what);
     let what = |sort| format!("`{sort}` is no answer to this call");
@@ -694,6 +824,10 @@ impl<S: Slip> Party for Slips<S> {
     fn stepper(&self) -> impl Stepper {
         stepwise::Second
     }
+
+    fn harvester(&self) -> impl Harvester {
+        harvest::Second
+    }
 }
 
 impl<S: Slip> Subject for Slips<S> {
@@ -713,6 +847,10 @@ impl<S: Slip> Subject for Slips<S> {
 
     fn invalidate_all(&mut self) {
         self.session.drop_all();
+    }
+
+    fn harvest(&mut self, memory: &mut [u8], asked: &Harvest, map: &mut [u8]) -> u8 {
+        self.session.harvest(memory, asked, map).unwrap_or(0)
     }
 
     fn put(&mut self, bytes: &CSession) {
@@ -771,6 +909,10 @@ fn a_wrong_fresh_session_is_told() {
 
         fn stepper(&self) -> impl Stepper {
             stepwise::Second
+        }
+
+        fn harvester(&self) -> impl Harvester {
+            harvest::Second
         }
     }
 

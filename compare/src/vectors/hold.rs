@@ -1,12 +1,15 @@
 //! Holds a party against a case: each field of each answer, the visited list,
-//! each byte of the memory after each call, and the bytes around it.
+//! each byte of memory and map after each call, and the bytes around them.
 
 use super::party::Party;
 use super::reader::{Calls, Case, Offers, Run, Step};
-use crate::boundary::{plain_answer, CAnswer, CStepwise, Reply, Spelling, Stepper, Subject};
+use crate::arena::{unlike, Arena};
+use crate::boundary::{
+    plain_answer, CAnswer, CStepwise, Harvester, Reply, Spelling, Stepper, Subject,
+};
+use crate::harvest::Harvest;
 use crate::random::Random;
 use crate::reference::{offset_in_memory, pool_reader, write_descriptor, Access, Answer, Regime};
-use crate::scripts::Arena;
 use crate::session::Call;
 use crate::stepwise::{Update, WALK_ENDED};
 use std::fmt::Debug;
@@ -39,6 +42,10 @@ pub fn hold<P: Party>(party: &P, case: &Case) -> Vec<Difference> {
         }
         Calls::Session(steps) => hold_session(party, case, steps).into_iter().collect(),
         Calls::Stepwise(offers) => hold_stepwise(party, case, offers).into_iter().collect(),
+        Calls::Harvest(regime, step) => {
+            let held = hold_harvest(party, case.lent(), regime, step);
+            held.into_iter().collect()
+        }
     }
 }
 
@@ -59,6 +66,47 @@ fn hold_walk<P: Party>(
     Difference::of(step.line, &step.call, why)
 }
 
+fn hold_harvest<P: Party>(
+    party: &P,
+    memory: &[u8],
+    regime: &Regime,
+    step: &Step<Harvest>,
+) -> Option<Difference> {
+    let mut arena = Arena::new(memory, shift(step.line));
+    let mut map = MapHeld::new(step.call.map(), step.line);
+    let lent = arena.lend(memory.len());
+    let spelling = spelling(step.line);
+    let harvester = party.harvester();
+    let number = harvester.harvest(lent, regime, &step.call, map.lend(), spelling);
+    let wanted = changed(memory.to_vec(), &step.changes);
+    let mut why = differences(step, &Reply::Changed(number), &wanted, &arena);
+    why.extend(map.differences(&step.map));
+    Difference::of(step.line, &step.call, why)
+}
+
+/// A map that is lent, and what it should become.
+struct MapHeld {
+    found: Vec<u8>,
+    arena: Arena,
+}
+
+impl MapHeld {
+    fn new(found: Vec<u8>, line: usize) -> Self {
+        let arena = Arena::new(&found, shift(line));
+        MapHeld { found, arena }
+    }
+
+    fn lend(&mut self) -> &mut [u8] {
+        self.arena.lend(self.found.len())
+    }
+
+    /// What is wrong with it, where these runs should be new in it.
+    fn differences(self, runs: &[Run]) -> Vec<String> {
+        let wanted = changed(self.found, runs);
+        self.arena.differences("map", &wanted)
+    }
+}
+
 /// The first difference; the calls behind it would stand on it.
 fn hold_session<P: Party>(party: &P, case: &Case, steps: &[Step<Call>]) -> Option<Difference> {
     let mut session = match party.fresh(noise(case.line)) {
@@ -72,9 +120,11 @@ fn hold_session<P: Party>(party: &P, case: &Case, steps: &[Step<Call>]) -> Optio
     let mut arena = Arena::new(&wanted, shift(case.line));
     steps.iter().find_map(|step| {
         let lent = arena.lend(wanted.len());
-        let reply = session.call(lent, &step.call, spelling(step.line));
+        let mut map = MapHeld::new(step.call.map(), step.line);
+        let reply = session.call(lent, map.lend(), &step.call, spelling(step.line));
         wanted = changed(std::mem::take(&mut wanted), &step.changes);
         let mut why = differences(step, &reply, &wanted, &arena);
+        why.extend(map.differences(&step.map));
         why.extend(session.wrong_bytes(&step.call, &reply));
         Difference::of(step.line, &step.call, why)
     })
@@ -167,13 +217,13 @@ fn of_plain_walk<P: Party>(party: &P, memory: &[u8], offers: &Offers) -> Vec<Str
     }
     let named: Vec<u64> = offers.asked.iter().map(|asked| asked.0).collect();
     why.extend(of_visited(&named, &answer, visited.as_deref()));
-    why.extend(of_memory(&wanted, &came));
+    why.extend(unlike("memory", &wanted, &came));
     why
 }
 
-fn changed(mut memory: Vec<u8>, changes: &[Run]) -> Vec<u8> {
-    changes.iter().for_each(|run| run.write(&mut memory));
-    memory
+fn changed(mut bytes: Vec<u8>, changes: &[Run]) -> Vec<u8> {
+    changes.iter().for_each(|run| run.write(&mut bytes));
+    bytes
 }
 
 // How a call is made follows from its line, so that every run is the same.
@@ -197,10 +247,7 @@ fn differences<C>(step: &Step<C>, reply: &Reply, wanted: &[u8], arena: &Arena) -
         why.push(format!("expected: {}", words(&step.reply)));
         why.push(format!("came: {}", words(reply)));
     }
-    why.extend(of_memory(wanted, arena.memory()));
-    if !arena.margins_stand() {
-        why.push("bytes beside the memory were written".to_string());
-    }
+    why.extend(arena.differences("memory", wanted));
     why
 }
 
@@ -225,17 +272,6 @@ fn answer_words(answer: &CAnswer) -> String {
 /// All fields, each number in hexadecimal.
 fn in_hexadecimal(fields: &impl Debug) -> String {
     format!("{fields:x?} (in hexadecimal)")
-}
-
-fn of_memory(wanted: &[u8], came: &[u8]) -> Option<String> {
-    let differs = |&at: &usize| wanted[at] != came[at];
-    let at = (0..wanted.len()).find(differs)?;
-    let count = (at..wanted.len()).filter(differs).count();
-    let (wanted, came) = (wanted[at], came[at]);
-    let first = format!("at offset {at:#x}: expected {wanted:#04x}, came {came:#04x}");
-    Some(format!(
-        "bytes of the memory differ: {count}, the first {first}"
-    ))
 }
 
 /// The list itself, and its length against the count of reads.

@@ -1,7 +1,8 @@
 //! Those that are held against the vectors: the library, which `main.rs`
 //! links, and the second program.
 
-use crate::boundary::{plain_answer, CAnswer, CSession, Spelling, Stepper, Subject};
+use crate::boundary::{plain_answer, CAnswer, CSession, Harvester, Spelling, Stepper, Subject};
+use crate::harvest::{self, Harvest};
 use crate::reference::{self, Access, Regime};
 use crate::session::Session;
 use crate::stepwise;
@@ -29,6 +30,9 @@ pub trait Party {
 
     /// The walk a descriptor at a time.
     fn stepper(&self) -> impl Stepper;
+
+    /// The plain harvest.
+    fn harvester(&self) -> impl Harvester;
 }
 
 /// The second program.
@@ -56,6 +60,10 @@ impl Party for Second {
     fn stepper(&self) -> impl Stepper {
         stepwise::Second
     }
+
+    fn harvester(&self) -> impl Harvester {
+        harvest::Second
+    }
 }
 
 impl Subject for Session {
@@ -73,6 +81,10 @@ impl Subject for Session {
 
     fn invalidate_all(&mut self) {
         self.drop_all();
+    }
+
+    fn harvest(&mut self, memory: &mut [u8], asked: &Harvest, map: &mut [u8]) -> u8 {
+        Session::harvest(self, memory, asked, map).unwrap_or(0)
     }
 
     fn put(&mut self, bytes: &CSession) {

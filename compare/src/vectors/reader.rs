@@ -6,16 +6,19 @@
 use super::settings;
 use super::text::{Line, Lines, Problem, NOTE};
 use crate::boundary::{plain_answer, CAnswer, Reply, FAULT, SUCCESS};
+use crate::harvest::{Fill, Harvest};
 use crate::reference::{Access, Answer, Kind, Regime, MEMORY_LIMIT};
 use crate::session::Call;
 use crate::stepwise::Update;
 
-/// The longest memory that a case may have: 64 MiB, well above what may be lent.
+/// The longest memory or map that a case may have: 64 MiB, well above what may
+/// be lent.
 pub const LONGEST_MEMORY: usize = 1 << 26;
 
 const _: () = assert!(LONGEST_MEMORY > MEMORY_LIMIT);
 
 const END: &str = "end";
+const HARVEST: &str = "harvest";
 
 pub struct Case {
     pub line: usize,
@@ -41,6 +44,8 @@ pub enum Calls {
     Session(Vec<Step<Call>>),
     /// A walk a descriptor at a time.
     Stepwise(Offers),
+    /// A plain harvest.
+    Harvest(Regime, Step<Harvest>),
 }
 
 impl Calls {
@@ -49,6 +54,7 @@ impl Calls {
             Calls::Walk(_, steps) => steps.len(),
             Calls::Session(steps) => steps.len(),
             Calls::Stepwise(offers) => 1 + offers.asked.len() + offers.late.len(),
+            Calls::Harvest(..) => 1,
         }
     }
 }
@@ -74,10 +80,12 @@ pub struct Step<C> {
     pub reply: Reply,
     /// The descriptor addresses in order, where the case tells them.
     pub visited: Option<Vec<u64>>,
+    /// What is new in the map, where the call has one.
+    pub map: Vec<Run>,
     pub changes: Vec<Run>,
 }
 
-/// A run of bytes of the memory.
+/// A run of bytes of the memory, or of the map.
 pub struct Run {
     pub offset: usize,
     pub bytes: Vec<u8>,
@@ -111,6 +119,7 @@ const KINDS: &[(&str, (Memory, ReadCalls))] = &[
     ("walk", (Memory::Due, walk)),
     ("session", (Memory::Due, session)),
     ("stepwise", (Memory::MayBeMissing, stepwise)),
+    ("harvest", (Memory::Due, harvest)),
 ];
 
 /// Reads a call, whose first line is given.
@@ -121,6 +130,7 @@ const CALLS: &[(&str, ReadCall)] = &[
     ("access", |_, line| access(line).map(Call::Access)),
     ("store", |_, line| store(line)),
     ("drop", |_, line| line.words().map(|[]| Call::DropAll)),
+    (HARVEST, |_, line| asked(line).map(Call::Harvest)),
 ];
 
 const ACCESSES: &[(&str, Kind)] = &[
@@ -180,22 +190,28 @@ fn case(lines: &mut Lines) -> Result<Case, Problem> {
 fn memory(lines: &mut Lines, line: &Line) -> Result<Vec<u8>, Problem> {
     let [length, fill] = line.words()?;
     let length: usize = line.read(length)?;
-    if length > LONGEST_MEMORY {
-        return Err(line.problem(format!("a memory of more than {LONGEST_MEMORY} bytes")));
-    }
+    limited(line, length, "memory")?;
     let mut memory = vec![line.read(fill)?; length];
     while let Some(line) = lines.take_if("bytes") {
-        run(&line, length)?.write(&mut memory);
+        run(&line, length, "memory")?.write(&mut memory);
     }
     Ok(memory)
 }
 
-/// The bytes of a line, which must lie in a memory of so many bytes.
-fn run(line: &Line, length: usize) -> Result<Run, Problem> {
+/// That a memory or a map is not too long.
+fn limited(line: &Line, length: usize, what: &str) -> Result<(), Problem> {
+    if length > LONGEST_MEMORY {
+        return Err(line.problem(format!("a {what} of more than {LONGEST_MEMORY} bytes")));
+    }
+    Ok(())
+}
+
+/// The bytes of a line, which must lie in a memory or a map of so many bytes.
+fn run(line: &Line, length: usize, of: &str) -> Result<Run, Problem> {
     let [offset, bytes] = line.words()?;
     let (offset, bytes): (usize, Vec<u8>) = (line.read(offset)?, line.read(bytes)?);
     if offset > length || bytes.len() > length - offset {
-        return Err(line.problem("bytes outside the memory"));
+        return Err(line.problem(format!("bytes outside the {of}")));
     }
     Ok(Run { offset, bytes })
 }
@@ -210,6 +226,7 @@ fn walk(lines: &mut Lines, length: usize) -> Result<Calls, Problem> {
             call: access,
             reply,
             visited: Some(visited(&lines.take(&["visited"])?)?),
+            map: Vec::new(),
             changes: changes(lines, length)?,
         })
     })?;
@@ -226,10 +243,43 @@ fn session(lines: &mut Lines, length: usize) -> Result<Calls, Problem> {
             call,
             reply: reply(lines, &call)?,
             visited: None,
+            map: match call {
+                Call::Harvest(asked) => runs(lines, "map", asked.room, "map")?,
+                _ => Vec::new(),
+            },
             changes: changes(lines, length)?,
         })
     })?;
     Ok(Calls::Session(steps))
+}
+
+fn harvest(lines: &mut Lines, length: usize) -> Result<Calls, Problem> {
+    let regime = regime(&lines.take(&["regime"])?)?;
+    let line = lines.take(&[HARVEST])?;
+    let asked = asked(&line)?;
+    let step = Step {
+        line: line.number,
+        call: asked,
+        reply: reply(lines, &Call::Harvest(asked))?,
+        visited: None,
+        map: runs(lines, "map", asked.room, "map")?,
+        changes: changes(lines, length)?,
+    };
+    let [] = lines.take(&[END])?.words()?;
+    Ok(Calls::Harvest(regime, step))
+}
+
+/// What is asked of a harvest, and the map for it.
+fn asked(line: &Line) -> Result<Harvest, Problem> {
+    let [first, count, room, fill] = line.words()?;
+    let asked = Harvest {
+        first: line.read(first)?,
+        count: line.read(count)?,
+        room: line.read(room)?,
+        fill: Fill::Byte(line.read(fill)?),
+    };
+    limited(line, asked.room, "map")?;
+    Ok(asked)
 }
 
 fn stepwise(lines: &mut Lines, _: usize) -> Result<Calls, Problem> {
@@ -332,11 +382,10 @@ fn reply(lines: &mut Lines, call: &Call) -> Result<Reply, Problem> {
     }
     let (line, sort) = sort(lines)?;
     match (sort, call) {
-        ("refused", Call::SetRegime(_) | Call::Store { .. }) => refusal(&line).map(Reply::Changed),
-        ("accepted", Call::SetRegime(_) | Call::Store { .. }) => {
-            line.words::<1>().map(|_| Reply::Changed(0))
-        }
         ("accepted", Call::DropAll) => line.words::<1>().map(|_| Reply::Dropped),
+        (_, Call::DropAll) => Err(no_answer(&line, sort)),
+        ("refused", _) => refusal(&line).map(Reply::Changed),
+        ("accepted", _) => line.words::<1>().map(|_| Reply::Changed(0)),
         _ => Err(no_answer(&line, sort)),
     }
 }
@@ -393,15 +442,21 @@ fn visited(line: &Line) -> Result<Vec<u64>, Problem> {
     addresses.iter().map(|word| line.read(word)).collect()
 }
 
-/// The bytes that a call leaves new; no two runs overlap.
+/// The bytes of the memory that a call leaves new.
 fn changes(lines: &mut Lines, length: usize) -> Result<Vec<Run>, Problem> {
-    let mut changes: Vec<Run> = Vec::new();
-    while let Some(line) = lines.take_if("change") {
-        let change = run(&line, length)?;
-        if changes.iter().any(|other| other.overlaps(&change)) {
-            return Err(line.problem("a byte of another change of this call"));
+    runs(lines, "change", length, "memory")
+}
+
+/// The runs of lines with a name, in a memory or a map of so many bytes; no two
+/// overlap.
+fn runs(lines: &mut Lines, name: &str, length: usize, of: &str) -> Result<Vec<Run>, Problem> {
+    let mut runs: Vec<Run> = Vec::new();
+    while let Some(line) = lines.take_if(name) {
+        let next = run(&line, length, of)?;
+        if runs.iter().any(|other| other.overlaps(&next)) {
+            return Err(line.problem(format!("a byte of another {name} of this call")));
         }
-        changes.push(change);
+        runs.push(next);
     }
-    Ok(changes)
+    Ok(runs)
 }

@@ -1,5 +1,5 @@
 -- Rule 1 (RULES 13) for the calls of a session: any session, any memory, any call; and every list of calls.
--- That every call gets an answer and ends is the code's contract, which asks nothing of its caller (`..-free` in proofs/Promises.antt of session, lent, capi_walk and capi_session).
+-- That every call gets an answer and ends is the code's contract, which asks nothing of its caller (`..-free` in proofs/Promises.antt of session, lent, capi_walk, capi_session and capi_harvest).
 use Prim.Native.Nat.{ℕ, _+_, _^_, _<_, _≤_}
 use mathlib.Core.Bool.{Bool, true, false}
 use mathlib.Core.List.{List, [], _∷_, _++_, map}

@@ -21,7 +21,7 @@ pages f x (suc n) s = pages f (suc x) n (f x s)
 unfoldable pub wholeIn : ℕ → ℕ → ℕ → ℕ → Bool
 wholeIn from n w x = leb from (x / w * w) && leb (x / w * w + w) (from + n)
 
--- where a page of size bits p is asked for among n pages from `from` on, and the pool's byte order and address
+-- the pages asked for, count of them from `from` on, with the bits of a page; and the byte order and address of the pool that they are walked in
 pub record Asked : Type 0 where
   pub ee : Bool
   pub base : ℕ

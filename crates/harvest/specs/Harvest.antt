@@ -26,10 +26,11 @@ reached r pool page = locate r (poolReader r pool) (page * pageSize (pageBitsOf 
 unfoldable pub reports : Regime → List ℕ → ℕ → ℕ → Bool
 reports r pool first n = dirtyEnd (reached r pool (first + n))
 
--- the pool with each such leaf set again that a page reaches with all the leaf's pages among those asked for: page after page, each by its walk over the pool at entry
+-- the pages asked for, and the pool that they are walked in
 abbrev pub askedOf : Regime → ℕ → ℕ → Asked
 askedOf r first count = asked (r .ee) (r .pool .address .0) (pageBitsOf r) first count
 
+-- the pool with each such leaf set again that a page reaches with all the leaf's pages among those asked for: page after page, each by its walk over the pool at entry
 unfoldable pub cleanPool : Regime → ℕ → ℕ → List ℕ → List ℕ
 cleanPool r first count pool = pages (cleanedBy (askedOf r first count) (reached r pool)) first count pool
 

@@ -29,7 +29,8 @@ use Rattle.rule3.specs.Lawful.{unlessRefused}
 use Rattle.rule3.proofs.Final.{lawful}
 use Rattle.rules_harvest.specs.Leaves.{PageLeaf, AskedFor}
 use Rattle.no_page_lost.specs.Lost.{Reported}
-use Rattle.no_page_lost.specs.Plain.{Walking, Harvesting, Walks, none, more, NoPageLostBy}
+use Rattle.no_page_lost.specs.Plain.{Walking, Harvesting, Refusing, Walks, none, refused, NoPageLostBy}
+use Rattle.no_page_lost.specs.Plain as plain
 use Rattle.no_page_lost.proofs.Held.{Held, walked-held, wrote-held}
 use Rattle.no_page_lost.proofs.Harvests.{covered}
 
@@ -75,17 +76,22 @@ plain-still R m b page at h a =
 
 -- ---- the claim, of functions that do what `walk` and `harvest` say
 
-module _ (r : Regime) (W : Walking) (H : Harvesting)
+module _ (r : Regime) (W : Walking) (H : Harvesting) (K : Refusing)
     (walks : (a : Access) (m : List ℕ) (o : Result) (n : List ℕ) → W a m o n → (o ≡ walk r a m .result) × (n ≡ walk r a m .bytes))
+    (stays : (m n : List ℕ) → K m n → n ≡ m)
     (fills : (first count : ℕ) (m map filled : List ℕ) → H first count m map filled → (harvest r first count m map .reply ≡ Accepted) × (filled ≡ harvest r first count m map .map)) where
-  all-still : (page at : ℕ) {n k : List ℕ} → Walks W n k → Bytes n → Held r n page at → Bytes k × Held r k page at
+  all-still : (page at : ℕ) {n k : List ℕ} → Walks W K n k → Bytes n → Held r n page at → Bytes k × Held r k page at
   all-still page at none b h = (b, h)
-  all-still page at (more {n = n} {k = k} {a = a} {o = o} w made) b h =
+  all-still page at (refused {n = n} {k = k} w made) b h =
+      let i = all-still page at w b h in
+      let q = stays n k made in
+      (subst⁻¹ Bytes q (i .0), subst⁻¹ (λ (l : List ℕ). Held r l page at) q (i .1))
+  all-still page at (plain.walk {n = n} {k = k} {a = a} {o = o} w made) b h =
       let i = all-still page at w b h in
       let q = walks a n o k made .1 in
       (subst⁻¹ Bytes q (rule1 .bytes r a n (i .0)), subst⁻¹ (λ (l : List ℕ). Held r l page at) q (plain-still r n (i .0) page at (i .1) a))
 
-  pub no-page-lost-by : NoPageLostBy r W H
+  pub no-page-lost-by : NoPageLostBy r W H K
   no-page-lost-by m b a o n made s q w l d k more-walks first count map filled hv asked =
       let page = pageOf (pageBitsOf r) (a .address .0) in
       let at = offsetOf r (l .address) in

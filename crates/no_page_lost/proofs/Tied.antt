@@ -8,10 +8,11 @@ use Rattle.vmsa.specs.declared.Regime.{Regime}
 use Rattle.vmsa.specs.declared.RegimeWords.{RegimeWords}
 use Rattle.vmsa.specs.declared.Access.{Access}
 use Rattle.checks.specs.declared.Checked.{Checked}
-use Rattle.checks.specs.declared.Checked.the-variants.{Accepted}
+use Rattle.checks.specs.declared.Checked.the-variants.{Accepted, Refused}
 use Rattle.walk.specs.Walk.{Outcome, walk}
 use Rattle.walk.proofs.Promises.{walk-promise}
 use Rattle.harvest.specs.Harvest.{Harvested, harvest}
+use Rattle.harvest.proofs.Laws.{harvest-kept}
 use Rattle.tlb.specs.Replies.{Told}
 use Rattle.words.specs.declared.AnswerWords.{AnswerWords}
 use Rattle.words.specs.Words.{wordsOf, accessOf}
@@ -22,7 +23,7 @@ use Rattle.rules_c.specs.Readings.{resultIn}
 use Rattle.rules_c.proofs.Numbers.{result-in}
 use Rattle.rules_c.proofs.Chains.{made-leaves as c-leaves, empty-fresh}
 use Rattle.rules_harvest.proofs.Tied.{harvest-code, harvest-c}
-use Rattle.no_page_lost.specs.Code.{NoPageLostOfCode, NoPageLostOfLent, NoPageLostOfC, ReportedOnceOfCode, ReportedOnceOfLent, ReportedOnceOfC, WalkMade, walked, HarvestMade, harvested, NoPageLostByCode, WalkMadeC, walked-c, HarvestMadeC, harvested-c, NoPageLostByC}
+use Rattle.no_page_lost.specs.Code.{NoPageLostOfCode, NoPageLostOfLent, NoPageLostOfC, ReportedOnceOfCode, ReportedOnceOfLent, ReportedOnceOfC, WalkMade, walked, HarvestMade, harvested, HarvestRefused, refused, NoPageLostByCode, WalkMadeC, walked-c, HarvestMadeC, harvested-c, HarvestRefusedC, refused-c, NoPageLostByC}
 use Rattle.no_page_lost.proofs.Plain.{no-page-lost-by}
 use Rattle.no_page_lost.proofs.Watch.{reported-once-of, no-page-lost-of}
 
@@ -59,8 +60,13 @@ fills-code r (harvested lives memory first count map after filled h) =
     let e = harvest-code lives memory r first count map after filled Accepted h in
     (sym (ap (λ (t : Harvested Checked). t .reply) e), ap (λ (t : Harvested Checked). t .map) e)
 
+stays-code : (r : Regime) {m n : List ℕ} → HarvestRefused r m n → n ≡ m
+stays-code r (refused lives memory first count map after filled y h) =
+    let e = harvest-code lives memory r first count map after filled (Refused y) h in
+    ap (λ (t : Harvested Checked). t .memory) e ∙ harvest-kept r first count (memory .now) (map .now) y (sym (ap (λ (t : Harvested Checked). t .reply) e))
+
 pub no-page-lost-by-code : NoPageLostByCode
-no-page-lost-by-code r = no-page-lost-by r (WalkMade r) (HarvestMade r) (λ a m o n w. walks-code r w) (λ first count m map filled w. fills-code r w)
+no-page-lost-by-code r = no-page-lost-by r (WalkMade r) (HarvestMade r) (HarvestRefused r) (λ a m o n w. walks-code r w) (λ m n w. stays-code r w) (λ first count m map filled w. fills-code r w)
 
 walks-c : (g : RegimeWords) {a : Access} {m : List ℕ} {o : Result} {n : List ℕ} → WalkMadeC g a m o n → (o ≡ walk (regimeOf g) a m .result) × (n ≡ walk (regimeOf g) a m .bytes)
 walks-c g (walked-c m a m′ w h) =
@@ -70,5 +76,11 @@ fills-c : (g : RegimeWords) {first count : ℕ} {m map filled : List ℕ} → Ha
     → (harvest (regimeOf g) first count m map .reply ≡ Accepted) × (filled ≡ harvest (regimeOf g) first count m map .map)
 fills-c g (harvested-c m first count map m′ map′ h) = let e = harvest-c m g first count map m′ map′ 0 h in (e .accepted .0 refl, e .map-left)
 
+stays-c : (g : RegimeWords) {m n : List ℕ} → HarvestRefusedC g m n → n ≡ m
+stays-c g (refused-c m first count map m′ map′ n z h) =
+    let e = harvest-c m g first count map m′ map′ n h in
+    let x = e .refused n .0 (refl, z) in
+    e .memory ∙ harvest-kept (regimeOf g) first count m map (x .0) (x .1)
+
 pub no-page-lost-by-c : NoPageLostByC
-no-page-lost-by-c g = no-page-lost-by (regimeOf g) (WalkMadeC g) (HarvestMadeC g) (λ a m o n w. walks-c g w) (λ first count m map filled w. fills-c g w)
+no-page-lost-by-c g = no-page-lost-by (regimeOf g) (WalkMadeC g) (HarvestMadeC g) (HarvestRefusedC g) (λ a m o n w. walks-c g w) (λ m n w. stays-c g w) (λ first count m map filled w. fills-c g w)

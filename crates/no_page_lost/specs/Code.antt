@@ -1,6 +1,7 @@
 -- No written page is lost (RULES 17.5): of the functions of a session by value, over a lent session and in C, and of the plain ones by value and in C, each call by its own contract.
 use Prim.Native.Nat.{ℕ}
 use mathlib.Core.List.{List}
+use mathlib.Core.Logic.{_≢_}
 use mathlib.Core.Path.{_≡_}
 use contract.Lifetimes.{Lfts}
 use denote.Ref.{RefT, at-last}
@@ -10,7 +11,8 @@ use Rattle.vmsa.specs.declared.Regime.{Regime}
 use Rattle.vmsa.specs.declared.RegimeWords.{RegimeWords}
 use Rattle.vmsa.specs.declared.Access.{Access}
 use Rattle.vmsa.specs.declared.Answer.{Answer}
-use Rattle.checks.specs.declared.Checked.the-variants.{Accepted}
+use Rattle.vmsa.specs.declared.Refusal.{Refusal}
+use Rattle.checks.specs.declared.Checked.the-variants.{Accepted, Refused}
 use Rattle.walk.proofs.walk.Reads as Walk
 use Rattle.harvest.proofs.harvest.Reads as Harvest
 use Rattle.session.specs.declared.Session.{Session as SessionStruct}
@@ -58,8 +60,13 @@ pub data HarvestMade (r : Regime) : ℕ → ℕ → List ℕ → List ℕ → Li
       → Harvest.Learnt lives (memory, (r, (first, (count, (map, tt))))) Accepted (at-last memory after, (r, (first, (count, (at-last map filled, tt)))))
       → HarvestMade r first count (memory .now) (map .now) filled
 
+pub data HarvestRefused (r : Regime) : List ℕ → List ℕ → Type 0 where
+  refused : (lives : Lfts 2) (memory : RefT (List ℕ)) (first count : ℕ) (map : RefT (List ℕ)) (after filled : List ℕ) (y : Refusal)
+      → Harvest.Learnt lives (memory, (r, (first, (count, (map, tt))))) (Refused y) (at-last memory after, (r, (first, (count, (at-last map filled, tt)))))
+      → HarvestRefused r (memory .now) after
+
 abbrev pub NoPageLostByCode : Type 0
-NoPageLostByCode = (r : Regime) → NoPageLostBy r (WalkMade r) (HarvestMade r)
+NoPageLostByCode = (r : Regime) → NoPageLostBy r (WalkMade r) (HarvestMade r) (HarvestRefused r)
 
 pub data WalkMadeC (g : RegimeWords) : Access → List ℕ → Result → List ℕ → Type 0 where
   walked-c : (m : List ℕ) (a : AccessWords) (m′ : List ℕ) (w : AnswerWords) → WalkSays m g a m′ w → WalkMadeC g (accessOf a) m (resultIn w) m′
@@ -67,5 +74,8 @@ pub data WalkMadeC (g : RegimeWords) : Access → List ℕ → Result → List �
 pub data HarvestMadeC (g : RegimeWords) : ℕ → ℕ → List ℕ → List ℕ → List ℕ → Type 0 where
   harvested-c : (m : List ℕ) (first count : ℕ) (map m′ map′ : List ℕ) → HarvestSays m g first count map m′ map′ 0 → HarvestMadeC g first count m map map′
 
+pub data HarvestRefusedC (g : RegimeWords) : List ℕ → List ℕ → Type 0 where
+  refused-c : (m : List ℕ) (first count : ℕ) (map m′ map′ : List ℕ) (n : ℕ) → n ≢ 0 → HarvestSays m g first count map m′ map′ n → HarvestRefusedC g m m′
+
 abbrev pub NoPageLostByC : Type 0
-NoPageLostByC = (g : RegimeWords) → NoPageLostBy (regimeOf g) (WalkMadeC g) (HarvestMadeC g)
+NoPageLostByC = (g : RegimeWords) → NoPageLostBy (regimeOf g) (WalkMadeC g) (HarvestMadeC g) (HarvestRefusedC g)

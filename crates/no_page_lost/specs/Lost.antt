@@ -55,7 +55,7 @@ abbrev pub Undisturbed : List Event → Type 0
 Undisturbed [] = Unit {0}
 Undisturbed (e ∷ before) = (disturbs (e .made) (e .reply) ≡ false) × Undisturbed before
 
--- no accepted harvest among these calls
+-- an accepted harvest; and none among these calls
 abbrev pub harvests : Call → Reply → Bool
 harvests (setRegime R) reply = false
 harvests (access a) reply = false

@@ -15,22 +15,27 @@ use Rattle.vmsa.specs.declared.Success.{Success}
 use Rattle.rules_harvest.specs.Leaves.{PageLeaf, AskedFor}
 use Rattle.no_page_lost.specs.Lost.{Reported}
 
--- functions that walk, W a m o n: the walk of a over m gave o and left n; and that harvest, H first count m map filled: accepted, it left this of the map
+-- functions that walk, W a m o n: the walk of a over m gave o and left n; that harvest, H first count m map filled: accepted, it left this of the map; and that
+-- refuse to, K m n: refused, a harvest over m left n
 abbrev pub Walking : Type 1
 Walking = Access → List ℕ → Result → List ℕ → Type 0
 
 abbrev pub Harvesting : Type 1
 Harvesting = ℕ → ℕ → List ℕ → List ℕ → List ℕ → Type 0
 
--- walks one after another
-pub data Walks (W : Walking) : List ℕ → List ℕ → Type 0 where
-  none : {m : List ℕ} → Walks W m m
-  more : {m n k : List ℕ} {a : Access} {o : Result} → Walks W m n → W a n o k → Walks W m k
+abbrev pub Refusing : Type 1
+Refusing = List ℕ → List ℕ → Type 0
 
--- a page that was written on a leaf with DBM set is reported by the next harvest that covers it, whatever walks come between
-abbrev pub NoPageLostBy : Regime → Walking → Harvesting → Type 0
-NoPageLostBy r W H =
+-- walks and refused harvests, one after another
+pub data Walks (W : Walking) (K : Refusing) : List ℕ → List ℕ → Type 0 where
+  none : {m : List ℕ} → Walks W K m m
+  walk : {m n k : List ℕ} {a : Access} {o : Result} → Walks W K m n → W a n o k → Walks W K m k
+  refused : {m n k : List ℕ} → Walks W K m n → K n k → Walks W K m k
+
+-- a page that was written on a leaf with DBM set is reported by the next harvest that covers it, whatever walks and refused harvests come between
+abbrev pub NoPageLostBy : Regime → Walking → Harvesting → Refusing → Type 0
+NoPageLostBy r W H K =
     (m : List ℕ) → Bytes m → (a : Access) (o : Result) (n : List ℕ) → W a m o n → (s : Success) → o ≡ success s → writes (a .kind) ≡ true
-    → (l : PageLeaf r m (pageOf (pageBitsOf r) (a .address .0))) → dbm (l .value) ≡ true → (k : List ℕ) → Walks W n k
+    → (l : PageLeaf r m (pageOf (pageBitsOf r) (a .address .0))) → dbm (l .value) ≡ true → (k : List ℕ) → Walks W K n k
     → (first count : ℕ) (map filled : List ℕ) → H first count k map filled → AskedFor first count (pageOf (pageBitsOf r) (a .address .0))
     → Reported first filled (pageOf (pageBitsOf r) (a .address .0))

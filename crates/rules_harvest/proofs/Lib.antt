@@ -8,3 +8,4 @@ pub mod Promises
 pub mod Spans
 pub mod Walks
 pub mod Tied
+pub mod Worked

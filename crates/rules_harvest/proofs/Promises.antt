@@ -1,5 +1,5 @@
 -- What an accepted harvest promises holds.
-use Prim.Native.Nat.{ℕ, _+_, _-_, _<_, _≤_}
+use Prim.Native.Nat.{ℕ, _+_, _*_, _-_, _/_, _<_, _≤_}
 use mathlib.Core.Bool.{true}
 use mathlib.Core.List.{List}
 use mathlib.Core.Logic.{_⊎_, inl, inr}
@@ -19,7 +19,7 @@ use Rattle.lookup.specs.Trace.{End, fault, leaf}
 use Rattle.lookup.proofs.Readers.{AlikeEnds, faults, leaves}
 use Rattle.walk.specs.Walk.{poolBytes}
 use Rattle.walk.proofs.Parts.{desc-part}
-use Rattle.bitmap.specs.Map.{mapBit}
+use Rattle.bitmap.specs.Map.{mapBit, bytesFor}
 use Rattle.bitmap.proofs.Laws.{split, mapped-bit, mapped-pad, mapped-rest}
 use Rattle.gather.specs.Ends.{dirty, dirtyEnd, pagesIn}
 use Rattle.clean.specs.Clean.{Again}
@@ -27,7 +27,7 @@ use Rattle.clean.proofs.Laws.{set-clean, again-dirty}
 use Rattle.harvest.specs.Harvest.{reached, reports, askedOf, cleanPool, harvest}
 use Rattle.harvest.proofs.Laws.{outside}
 use Rattle.rules_harvest.specs.Leaves.{PageLeaf, offset, SaysDirty, Dirty, AskedFor, Whole, SetAgain}
-use Rattle.rules_harvest.specs.Harvest.{HarvestPromises}
+use Rattle.rules_harvest.specs.Harvest.{finalByte, HarvestPromises}
 use Rattle.rules_harvest.proofs.Taken.{Taken, taken, pool-long, pool-small, pool-after, fits-after}
 use Rattle.gather.proofs.Ends.{pages-pos}
 use Rattle.rules_harvest.proofs.Whole.{says, said, whole-all, all-whole}
@@ -196,6 +196,14 @@ module _ (r : Regime) (first count : ℕ) (m map : List ℕ) (small : Bytes m) (
           let same : w ≡ d .0 .value = sym now ∙ ap (λ (b : ℕ). desc (r .ee) clean-pool (b - base)) (sym ea) ∙ unset-leaf page (d .0) (d .2) in
           ap dirtyEnd q ∙ ap dirty same ∙ said (d .0 .value) (d .1)
 
+-- ---- the final byte of the map, and those after it
+
+final-bits : (count n : ℕ) → 0 < count → n / 8 ≡ finalByte count → n < 8 * bytesFor count
+final-bits count n z e = let h : n / 8 ≡ (count - 1) / 8 = e in let s : n < 8 * ((count + 7) / 8) = omega arith in s
+
+later-bytes : (count j : ℕ) → finalByte count < j → bytesFor count ≤ j
+later-bytes count j h = let k : (count - 1) / 8 < j = h in let s : (count + 7) / 8 ≤ j = omega arith in s
+
 -- ---- all of it
 
 pub harvest-promises : HarvestPromises
@@ -205,8 +213,8 @@ harvest-promises r first count m map small e =
     record {
       reports = λ n h.
           (λ b. dirty-page r m (first + n) (sym (bit-is r first count m map e n h) ∙ b), λ d. bit-is r first count m map e n h ∙ page-dirty r m (first + n) d);
-      spare = λ n lo hi. rw (t .map-is) (mapped-pad f count map n lo hi);
-      later = λ j h. rw (t .map-is) (mapped-rest f count map j h);
+      spare = λ n lo hi. rw (t .map-is) (mapped-pad f count map n lo (final-bits count n (t .some) hi));
+      later = λ j h. rw (t .map-is) (mapped-rest f count map j (later-bytes count j h));
       set = memory-set r first count m map small t;
       still = memory-still r first count m map small t;
       again = λ other a n h.

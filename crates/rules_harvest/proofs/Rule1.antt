@@ -1,7 +1,8 @@
 -- Rule 1 of a harvest holds.
-use Prim.Native.Nat.{ℕ, _<_}
+use Prim.Native.Nat.{ℕ, _-_, _/_, _<_, _≤_}
 use mathlib.Core.List.{List}
 use mathlib.Core.Path.{_≡_, refl, sym, ap, subst, _∙_}
+use native.Mathlib.Omega.{arith}
 use lib.ListN.{length, getD}
 use Rattle.descriptor.specs.Bytes.{Bytes}
 use Rattle.vmsa.specs.declared.Regime.{Regime}
@@ -16,7 +17,7 @@ use Rattle.harvest.specs.Harvest.{reports, harvest}
 use Rattle.harvest.proofs.Laws.{harvest-kept, map-kept, harvest-length, harvest-bytes, outside, unheard}
 use Rattle.rules.specs.Rule1.{FirstNumber}
 use Rattle.rules.proofs.Refusals.{first-refuses, refuses-first}
-use Rattle.rules_harvest.specs.Harvest.{RefusedWith, HarvestRule1s}
+use Rattle.rules_harvest.specs.Harvest.{RefusedWith, finalByte, HarvestRule1s}
 use Rattle.rules_harvest.proofs.Asked.{asked-good, good-asked, check-asked}
 use Rattle.rules_harvest.proofs.Taken.{reply-check, Taken, taken, filled-same}
 
@@ -60,11 +61,11 @@ module _ (r : Regime) (first count : ℕ) (m map : List ℕ) where
         by Accepted q = taken r first count m map q .memory ∙ sym (taken r first count m other (sym same-reply ∙ q) .memory)
         by (Refused x) q = harvest-kept r first count m map x q ∙ sym (harvest-kept r first count m other x (sym same-reply ∙ q))
 
-    same-filled : harvest r first count m map .reply ≡ Accepted → (j : ℕ) → j < bytesFor count
+    same-filled : harvest r first count m map .reply ≡ Accepted → (j : ℕ) → j ≤ finalByte count
         → getD (harvest r first count m map .map) j 0 ≡ getD (harvest r first count m other .map) j 0
     same-filled q j h =
         ap (λ (l : List ℕ). getD l j 0) (taken r first count m map q .map-is)
-        ∙ filled-same (reports r (poolBytes (r .pool) m) first) count map other j h
+        ∙ filled-same (reports r (poolBytes (r .pool) m) first) count map other j (let z = taken r first count m map q .some in let k : j ≤ (count - 1) / 8 = h in let s : j < bytesFor count = omega arith in s)
         ∙ ap (λ (l : List ℕ). getD l j 0) (sym (taken r first count m other (sym same-reply ∙ q) .map-is))
 
 pub rule-1-harvest : HarvestRule1s

@@ -32,6 +32,7 @@ reply-check r first count m map = by (harvestCheck (length m) r first count (len
 
 pub record Taken (r : Regime) (first count : ℕ) (m map : List ℕ) : Type 0 where
   pub settled : Settled (length m) r
+  pub some : 0 < count
   pub room : bytesFor count ≤ length map
   pub memory : harvest r first count m map .memory ≡ withPoolBytes (r .pool) m (cleanPool r first count (poolBytes (r .pool) m))
   pub map-is : harvest r first count m map .map ≡ mapped (reports r (poolBytes (r .pool) m) first) count map
@@ -43,6 +44,7 @@ taken r first count m map e =
     let h = harvest-accepted (length m) r first count (length map) c in
     record {
       settled = settled (length m) r (h .0);
+      some = asked-accepted r first count (length map) (h .1) .0 .some;
       room = asked-accepted r first count (length map) (h .1) .1;
       memory = ap (λ (x : Checked). harvestBy r first count m map x .memory) c;
       map-is = ap (λ (x : Checked). harvestBy r first count m map x .map) c;

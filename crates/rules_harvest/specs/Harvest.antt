@@ -1,6 +1,6 @@
 -- What a harvest (RULES 17) promises, over any bytes, regime, pages and map: rule 1, every bit of the map, every change of the memory, and what a second harvest reports.
 -- That every call gets an answer and ends is the code's contract: it asks nothing of its caller, and what it leaves equals `harvest`.
-use Prim.Native.Nat.{ℕ, _+_, _*_, _<_, _≤_}
+use Prim.Native.Nat.{ℕ, _+_, _*_, _-_, _/_, _<_, _≤_}
 use mathlib.Core.Bool.{true, false}
 use mathlib.Core.List.{List}
 use mathlib.Core.Logic.{_⊎_, _↔_}
@@ -18,7 +18,7 @@ use Rattle.checks.specs.declared.Checked.the-variants.{Accepted, Refused}
 use Rattle.checks.specs.Order.{regimeCheck, harvestRows}
 use Rattle.lookup.specs.Steps.{upper, rangeOf, outside as outsideRange}
 use Rattle.walk.specs.Walk.{poolBytes}
-use Rattle.bitmap.specs.Map.{mapBit, bytesFor}
+use Rattle.bitmap.specs.Map.{mapBit}
 use Rattle.harvest.specs.Harvest.{harvest}
 use Rattle.rules.specs.Rule1.{FirstNumber}
 use Rattle.rules_harvest.specs.Leaves.{PageLeaf, offset, SaysDirty, Dirty, AskedFor, Whole, SetAgain}
@@ -35,6 +35,10 @@ pub record Askable (r : Regime) (first count bytes : ℕ) : Type 0 where
   pub inside : (page : ℕ) → AskedFor first count page → outsideRange (rangeOf r (page * pageSize (pageBitsOf r)) .tsz) (page * pageSize (pageBitsOf r)) ≡ false
   pub one : (page : ℕ) → AskedFor first count page → upper (page * pageSize (pageBitsOf r)) ≡ upper (first * pageSize (pageBitsOf r))
   pub room : count ≤ 8 * bytes
+
+-- the final byte: that of the last page's bit
+abbrev pub finalByte : ℕ → ℕ
+finalByte count = (count - 1) / 8
 
 -- ---- rule 1 of a harvest
 
@@ -59,7 +63,7 @@ module _ (r : Regime) (first count : ℕ) (m map : List ℕ) where
     pub unread : (other : List ℕ) → length map ≡ length other
         → (harvest r first count m map .reply ≡ harvest r first count m other .reply)
         × (harvest r first count m map .memory ≡ harvest r first count m other .memory)
-        × (harvest r first count m map .reply ≡ Accepted → (j : ℕ) → j < bytesFor count → getD (harvest r first count m map .map) j 0 ≡ getD (harvest r first count m other .map) j 0)
+        × (harvest r first count m map .reply ≡ Accepted → (j : ℕ) → j ≤ finalByte count → getD (harvest r first count m map .map) j 0 ≡ getD (harvest r first count m other .map) j 0)
 
   -- ---- what an accepted harvest leaves
 
@@ -67,8 +71,8 @@ module _ (r : Regime) (first count : ℕ) (m map : List ℕ) where
     -- bit n is set exactly where page first + n reaches a leaf that says dirty, over the memory as the harvest found it
     pub reports : (n : ℕ) → n < count → (mapBit (harvest r first count m map .map) n ≡ true) ↔ Dirty r m (first + n)
     -- bits past the last page in the final byte are zero, and later bytes stay
-    pub spare : (n : ℕ) → count ≤ n → n < 8 * bytesFor count → mapBit (harvest r first count m map .map) n ≡ false
-    pub later : (j : ℕ) → bytesFor count ≤ j → getD (harvest r first count m map .map) j 0 ≡ getD map j 0
+    pub spare : (n : ℕ) → count ≤ n → n / 8 ≡ finalByte count → mapBit (harvest r first count m map .map) n ≡ false
+    pub later : (j : ℕ) → finalByte count < j → getD (harvest r first count m map .map) j 0 ≡ getD map j 0
     -- each such leaf that is reached whole has AP[2] set, and no other bit of it changes
     pub set : (l : SetAgain r first count m) → desc (r .ee) (harvest r first count m map .memory) (offset (l .leaf)) ≡ setBit 7 (l .leaf .value)
     -- no other byte of the memory changes

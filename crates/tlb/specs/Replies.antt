@@ -38,7 +38,7 @@ replyOf (success s) =
 replyOf (fault f) = answered (fault (record { code = f .code; level = f .level; cacheable = f .cacheable; reads = 0 })) (f .reads)
 replyOf (refusedWith n) = refused n
 
--- the reply of a call that is no access
+-- the reply of a call that answers nothing but that it was accepted
 abbrev pub replyTo : Checked → Reply
 replyTo Accepted = done
 replyTo (Refused x) = refused (numberOf x)

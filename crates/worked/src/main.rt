@@ -1,10 +1,11 @@
-// Runs the worked cases P1 to P12, a way through tables of 16 and of 64 KiB, and a session, and prints a line for each access: its answer, and the leaf descriptor afterwards.
+// Runs the worked cases P1 to P12, a way through tables of 16 and of 64 KiB, and a session, and prints a line for each access: its answer, and the leaf descriptor afterwards; and one for each harvest.
 ghost use mathlib.Core.Path.{_≡_};
 ghost use Prim.Native.Nat.{_+_, _≤_};
 ghost use Rattle.vmsa.specs.Settings.{withPool};
 ghost use Rattle.walk.specs.Walk.{outcome, walk as walkOf};
 ghost use Rattle.cases.specs.Cases.{base as baseOf, workedPool, eight as eightOf, access as accessOf, usual as usualOf, puts, tablesWith};
 ghost use Rattle.worked.specs.Room.{Roomy};
+use checks::Checked;
 use libc::STDOUT_FILENO;
 use session::Session;
 use vmsa::Access;
@@ -41,6 +42,12 @@ const LEAF: u64 = 0x00080000800053C3;
 const LEAF_OFFSET: usize = 0x3018;
 
 const LEAF_ADDRESS: u64 = 0x40003018;
+
+// The first page that is harvested; the leaf is that of page 0x403.
+const FIRST_PAGE: u64 = 0x400;
+
+// The length of the map that a harvest is lent.
+const MAP: usize = 2;
 
 // ---- what the cases start from
 
@@ -121,17 +128,27 @@ fn print_hex(x: u64) {
     io::print_hex(STDOUT_FILENO, x, 16);
 }
 
+// The two digits of a byte, after a blank.
+fn print_byte(x: u8) {
+    print(b" ");
+    io::print_hex(STDOUT_FILENO, x as u64, 2);
+}
+
 fn print_if(holds: bool, text: &[u8]) {
     if holds {
         print(text);
     }
 }
 
+fn print_leaf(leaf: u64) {
+    print(b" leaf ");
+    print_hex(leaf);
+}
+
 fn print_reads(reads: u8, leaf: u64) {
     print(b" reads ");
     print_decimal(reads as u64);
-    print(b" leaf ");
-    print_hex(leaf);
+    print_leaf(leaf);
 }
 
 fn print_success(s: Success, leaf: u64) {
@@ -161,6 +178,22 @@ fn print_answer(answer: Answer, leaf: u64) {
         Answer::Success(s) => print_success(s, leaf),
         Answer::Fault(f) => print_fault(f, leaf),
         Answer::Refused(x) => print_refusal(x),
+    }
+    print(b"\n");
+}
+
+fn print_map(map: [u8; MAP], leaf: u64) {
+    print(b" map");
+    print_byte(map[0]);
+    print_byte(map[1]);
+    print_leaf(leaf);
+}
+
+// What a harvest hands back, to the end of its line.
+fn print_harvest(reply: Checked, map: [u8; MAP], leaf: u64) {
+    match reply {
+        Checked::Accepted => print_map(map, leaf),
+        Checked::Refused(x) => print_refusal(x),
     }
     print(b"\n");
 }
@@ -268,7 +301,26 @@ fn step(session: Session, memory: &mut [u8; LENGTH], text: &[u8], a: Access) -> 
     step_at(session, memory, text, a, LEAF_OFFSET)
 }
 
-// The session of the README: a miss, hits, the first write, a store without and with a drop.
+// A harvest into a map whose bits are all set, and its line.
+fn harvest_step(session: Session, memory: &mut [u8; LENGTH], text: &[u8], count: u64) -> Session {
+    let mut map = [0xFFu8; MAP];
+    let x = session.harvest(memory, FIRST_PAGE, count, &mut map);
+    let after = x.session;
+    let reply = x.reply;
+    print(text);
+    print_harvest(reply, map, descriptor::load(memory, LEAF_OFFSET, false));
+    after
+}
+
+// Harvests of a dirty page: it is reported once, and again after the next write, which walks. A refused one keeps what is remembered.
+fn run_harvests(dirty: Session, memory: &mut [u8; LENGTH], write: Access) -> Session {
+    let s1 = harvest_step(dirty, memory, b"harvest:", 8);
+    let s2 = harvest_step(s1, memory, b"harvest again:", 8);
+    let s3 = step(s2, memory, b"write after a harvest:", write);
+    harvest_step(s3, memory, b"harvest of no pages:", 0)
+}
+
+// The session of the README: a miss, hits, the first write, harvests, a store without and with a drop.
 fn run_session(memory: &mut [u8; LENGTH], r: Regime) {
     let read = usual(AccessKind::Read);
     let write = usual(AccessKind::Write);
@@ -280,11 +332,12 @@ fn run_session(memory: &mut [u8; LENGTH], r: Regime) {
     let s3 = step(s2, memory, b"second read:", read);
     let s4 = step(s3, memory, b"first write:", write);
     let s5 = step(s4, memory, b"second write:", write);
-    let gone = s5.store(memory, PhysAddr(LEAF_ADDRESS), 0);
-    let s6 = gone.session;
-    let s7 = step(s6, memory, b"after a store:", read);
-    let s8 = step(s7.invalidate_all(), memory, b"after a drop:", read);
-    step(s8, memory, b"and again:", read);
+    let s6 = run_harvests(s5, memory, write);
+    let gone = s6.store(memory, PhysAddr(LEAF_ADDRESS), 0);
+    let s7 = gone.session;
+    let s8 = step(s7, memory, b"after a store:", read);
+    let s9 = step(s8.invalidate_all(), memory, b"after a drop:", read);
+    step(s9, memory, b"and again:", read);
 }
 
 fn main() {

@@ -33,7 +33,7 @@ pub const LAST_PAGE: usize = PAGES - 1;
 pub const PAST_THE_POOL: VirtAddr = VirtAddr(4 << 21);
 
 /// Offsets of the guest's level 3 tables; the second is the pool's last page.
-pub const LEAF_TABLES: [usize; 2] = [0x3000, GUEST.length - 0x1000];
+const LEAF_TABLES: [usize; 2] = [0x3000, GUEST.length - 0x1000];
 
 pub const AP2: u64 = 1 << 7;
 pub const AF: u64 = 1 << 10;

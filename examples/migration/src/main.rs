@@ -1,5 +1,5 @@
 //! A device writes guest pages through a session, and migration copies the
-//! pages that are marked dirty. Every line of the report is asserted.
+//! pages that a harvest reports. Every line of the report is asserted.
 //!
 //! The library is found as the crate `vmsa` says: in the folder `VMSA_LIB`.
 
@@ -11,8 +11,8 @@ use std::error::Error;
 
 use device::Device;
 use host::{Host, GUEST, LAST_PAGE, NEIGHBOUR, PAGES, PAST_THE_POOL, READ_ONLY, UNMAPPED};
-use migration::Migration;
-use vmsa::{Access, FaultKind, PhysAddr, Range, Session, VirtAddr};
+use migration::{Migration, ASKED};
+use vmsa::{Access, FaultKind, Pages, PhysAddr, Range, Session, VirtAddr, VirtPage};
 
 fn main() -> Result<(), Box<dyn Error>> {
     let mut host = Host::new()?;
@@ -28,9 +28,9 @@ fn main() -> Result<(), Box<dyn Error>> {
 
     rounds(&mut host, &mut device, &mut migration)?;
     faults(&mut host, &mut device, &mut migration)?;
-    without_the_drop(&mut host.clone(), &mut migration.clone())?;
+    plain_harvest(&mut host.clone(), &mut migration.clone())?;
     end_of_the_pool(&mut host, &mut device, &mut migration)?;
-    neighbour(&mut host)?;
+    neighbour(&mut host, &mut migration)?;
 
     println!(
         "ok: no written page lost, no other copied, nothing of the neighbour touched by the guest"
@@ -61,20 +61,23 @@ fn rounds(
             // A read sets the Access flag alone, and so is not copied.
             device.read(host, host::page(11))?;
         }
-        let marked = migration.dirty(host);
-        assert_eq!(marked, device.take_written(), "marked is what was written");
         let copied = migration.round(host)?;
-        assert_eq!(copied, marked.len());
+        assert_eq!(
+            copied,
+            device.take_written(),
+            "reported is what was written"
+        );
         assert!(migration.copy() == host.ram, "no written page is lost");
         assert!(
-            migration.dirty(host).is_empty(),
+            migration.round(host)?.is_empty(),
             "every leaf is clean again"
         );
         println!(
-            "round {}: {writes} writes, {} accesses ({} walked), {copied} pages marked and copied",
+            "round {}: {writes} writes, {} accesses ({} walked), {} pages reported and copied",
             round + 1,
             device.answered - answered,
             device.walks - walks,
+            copied.len(),
         );
     }
     Ok(())
@@ -98,29 +101,34 @@ fn faults(
         assert!(host.tables == before.tables && host.ram == before.ram);
         println!("write to the {name} page: {stop}; nothing marked");
     }
-    assert_eq!(migration.round(host)?, 0);
+    assert!(migration.round(host)?.is_empty());
     Ok(())
 }
 
-/// Why a store needs the drop: the entry of a page that is already dirty
-/// answers the next write, and no mark is made. Over a copy of the host.
-fn without_the_drop(host: &mut Host, migration: &mut Migration) -> Result<(), Box<dyn Error>> {
+/// Why the harvest is the session's: after a plain one the entry of a page that
+/// was dirty answers the next write, and no mark is made. Over a copy of the
+/// host.
+fn plain_harvest(host: &mut Host, migration: &mut Migration) -> Result<(), Box<dyn Error>> {
     let mut device = Device::default();
+    let mut map = vec![0; ASKED.map_length()];
     device.write(host, host::page(0), b"first")?;
-    let dirty = migration.dirty(host);
-    migration.rearm(host)?;
-    migration.copy_pages(host, &dirty);
+    vmsa::harvest(&mut host.tables, &host::regime(), ASKED, &mut map)?;
+    assert_eq!(ASKED.dirty(&map).len(), 1);
+    device.write(host, host::page(0), b"second")?;
+    migration.copy_pages(host, &map)?;
     assert!(migration.copy() == host.ram);
 
-    device.write(host, host::page(0), b"second")?;
-    assert!(migration.dirty(host).is_empty());
-    assert!(migration.copy() != host.ram);
-    println!("re-armed without the drop: the next write is not marked, its page would be lost");
-
-    // With the drop, it is.
-    host.session.invalidate_all();
     device.write(host, host::page(0), b"third")?;
-    assert_eq!(migration.round(host)?, 1);
+    vmsa::harvest(&mut host.tables, &host::regime(), ASKED, &mut map)?;
+    assert_eq!(ASKED.dirty(&map).len(), 0);
+    assert!(migration.copy() != host.ram);
+    println!("a plain harvest: the next write is not marked, its page would be lost");
+
+    // The session's harvest empties the entries, too late for that write; the
+    // next one is marked.
+    assert!(migration.round(host)?.is_empty());
+    device.write(host, host::page(0), b"fourth")?;
+    assert_eq!(migration.round(host)?.len(), 1);
     assert!(migration.copy() == host.ram);
     Ok(())
 }
@@ -153,10 +161,11 @@ fn end_of_the_pool(
     assert!(host.tables[NEIGHBOUR.start..] == neighbour);
     assert_eq!(host.ram[(PAGES << 12) - 16..], [0xa5; 16]);
     assert!(migration::is_dirty(host.descriptor(last)));
-    assert_eq!(migration.dirty(host), device.take_written());
-    assert_eq!(migration.round(host)?, 1);
+    assert_eq!(migration.round(host)?, device.take_written());
+    assert!(migration::is_clean(host.descriptor(last)));
+    assert!(host.tables[NEIGHBOUR.start..] == neighbour);
     assert!(migration.copy() == host.ram);
-    println!("offset {last}: written and marked, page {LAST_PAGE} copied");
+    println!("offset {last}: written and marked, page {LAST_PAGE} reported and copied");
     println!(
         "offset {}: {fault}; the neighbour's {} bytes are unchanged",
         NEIGHBOUR.start,
@@ -165,8 +174,9 @@ fn end_of_the_pool(
     Ok(())
 }
 
-/// The neighbour's own walk does reach that descriptor, and marks it.
-fn neighbour(host: &mut Host) -> Result<(), Box<dyn Error>> {
+/// The neighbour's own walk does reach that descriptor, and marks it; and only
+/// its own harvest reports the page.
+fn neighbour(host: &mut Host, migration: &mut Migration) -> Result<(), Box<dyn Error>> {
     let guest = host.tables[..NEIGHBOUR.start].to_vec();
     let regime = host::regime()
         .pool(NEIGHBOUR)
@@ -180,6 +190,19 @@ fn neighbour(host: &mut Host) -> Result<(), Box<dyn Error>> {
     assert!(host.tables[..NEIGHBOUR.start] == guest);
     println!(
         "offset {}: marked by the neighbour's own write; the guest's bytes are unchanged",
+        NEIGHBOUR.start
+    );
+
+    assert!(migration.round(host)?.is_empty());
+    assert!(migration::is_dirty(host.descriptor(NEIGHBOUR.start)));
+    let first = Pages::new(VirtPage(0), 1);
+    let mut map = [0];
+    session.harvest(&mut host.tables, first, &mut map)?;
+    assert!(first.dirty(&map).eq([first.first]));
+    assert!(migration::is_clean(host.descriptor(NEIGHBOUR.start)));
+    assert!(host.tables[..NEIGHBOUR.start] == guest);
+    println!(
+        "offset {}: reported by the neighbour's own harvest, and not by the guest's",
         NEIGHBOUR.start
     );
     Ok(())

@@ -1,10 +1,14 @@
-//! Migration: copies the pages whose leaf is marked, and arms them again.
+//! Migration: copies the pages that a harvest reports.
 
 use std::collections::BTreeSet;
 
-use vmsa::{PhysAddr, Refusal};
+use vmsa::{Access, Granule, Pages, Stop, VirtPage};
 
-use crate::host::{Host, AF, AP2, DBM, GUEST, LEAF_TABLES, RAM};
+use crate::host::{Host, AF, AP2, DBM, RAM};
+
+/// The pages that are asked for: all that the guest maps, and behind them those
+/// whose table would be the neighbour's first.
+pub const ASKED: Pages = Pages::new(VirtPage(0x400), 0x600);
 
 /// Whether a leaf is marked dirty: AP[2] clear, DBM and the Access flag set.
 pub fn is_dirty(leaf: u64) -> bool {
@@ -35,50 +39,30 @@ impl Migration {
         &self.copy
     }
 
-    /// The pages that are marked.
-    pub fn dirty(&self, host: &Host) -> BTreeSet<usize> {
-        dirty_leaves(host)
-            .map(|(_, leaf)| ((leaf & 0xffff_ffff_f000) - RAM.0) as usize >> 12)
-            .collect()
+    /// Harvests, and then copies; gives the pages of RAM. In this order a write
+    /// that comes in between is marked again, and copied twice at worst.
+    pub fn round(&mut self, host: &mut Host) -> Result<BTreeSet<usize>, Stop> {
+        let mut map = vec![0; ASKED.map_length()];
+        host.session.harvest(&mut host.tables, ASKED, &mut map)?;
+        self.copy_pages(host, &map)
     }
 
-    /// Arms, drops and copies; gives the count of pages. In this order a
-    /// write that comes in between is marked again, and copied twice at worst.
-    pub fn round(&mut self, host: &mut Host) -> Result<usize, Refusal> {
-        let pages = self.dirty(host);
-        self.rearm(host)?;
-        host.session.invalidate_all();
-        self.copy_pages(host, &pages);
-        Ok(pages.len())
-    }
-
-    /// Makes every marked leaf writable-clean again. The drop is left to the
-    /// caller.
-    pub fn rearm(&self, host: &mut Host) -> Result<(), Refusal> {
-        let leaves: Vec<_> = dirty_leaves(host).collect();
-        for (address, leaf) in leaves {
-            host.session.store(&mut host.tables, address, leaf | AP2)?;
-        }
-        Ok(())
-    }
-
-    /// Copies pages.
-    pub fn copy_pages(&mut self, host: &Host, pages: &BTreeSet<usize>) {
-        for page in pages {
+    /// Copies the pages of a map, and gives them as pages of RAM.
+    pub fn copy_pages(&mut self, host: &mut Host, map: &[u8]) -> Result<BTreeSet<usize>, Stop> {
+        let mut pages = BTreeSet::new();
+        for page in ASKED.dirty(map) {
+            let page = ram_page(host, page)?;
             let bytes = page << 12..(page + 1) << 12;
             self.copy[bytes.clone()].copy_from_slice(&host.ram[bytes]);
+            pages.insert(page);
         }
+        Ok(pages)
     }
 }
 
-/// The marked leaves with their physical addresses.
-fn dirty_leaves(host: &Host) -> impl Iterator<Item = (PhysAddr, u64)> + '_ {
-    LEAF_TABLES
-        .into_iter()
-        .flat_map(|table| (table..table + 0x1000).step_by(8))
-        .map(|offset| {
-            let address = PhysAddr(GUEST.address.0 + offset as u64);
-            (address, host.descriptor(GUEST.start + offset))
-        })
-        .filter(|&(_, leaf)| is_dirty(leaf))
+/// The page of RAM that a page of the guest leads to. A probe marks nothing.
+fn ram_page(host: &mut Host, page: VirtPage) -> Result<usize, Stop> {
+    let probe = Access::probe_read(page.address(Granule::Kib4));
+    let found = host.session.access(&mut host.tables, &probe)?;
+    Ok((found.output.0 - RAM.0) as usize >> 12)
 }

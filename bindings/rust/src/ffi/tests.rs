@@ -4,6 +4,8 @@ use super::*;
 
 #[path = "tests/granule.rs"]
 mod granule;
+#[path = "tests/harvest.rs"]
+mod harvest;
 #[path = "tests/order.rs"]
 mod order;
 #[path = "tests/spare.rs"]

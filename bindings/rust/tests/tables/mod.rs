@@ -9,8 +9,8 @@ pub mod kind;
 use std::fmt::Debug;
 
 use vmsa::{
-    Access, Answer, Fault, FaultKind, OutputSize, PhysAddr, Pool, Range, Refusal, Regime, Session,
-    VirtAddr,
+    Access, Answer, Fault, FaultKind, OutputSize, Pages, PhysAddr, Pool, Range, Refusal, Regime,
+    Session, VirtAddr,
 };
 
 /// Physical address of the pool, and of its root.
@@ -138,6 +138,24 @@ pub fn walk(memory: &mut [u8], regime: &Regime, access: &Access) -> Answer {
     )
 }
 
+/// The harvest, in both byte orders, which leave the same map.
+pub fn harvest(
+    memory: &mut [u8],
+    regime: &Regime,
+    pages: Pages,
+    map: &mut [u8],
+) -> Result<(), Refusal> {
+    let other = regime.ee(!regime.ee);
+    let mut other_map = map.to_vec();
+    let given = in_both(
+        memory,
+        |memory| vmsa::harvest(memory, regime, pages, map),
+        |memory| vmsa::harvest(memory, &other, pages, &mut other_map),
+    );
+    assert!(map == other_map, "with EE turned");
+    given
+}
+
 /// A session, and one of the other byte order beside it.
 #[derive(Clone, Debug, PartialEq)]
 pub struct Both(pub Session, Session);
@@ -180,6 +198,22 @@ impl Both {
     pub fn invalidate_all(&mut self) {
         self.0.invalidate_all();
         self.1.invalidate_all();
+    }
+
+    pub fn harvest(
+        &mut self,
+        memory: &mut [u8],
+        pages: Pages,
+        map: &mut [u8],
+    ) -> Result<(), Refusal> {
+        let mut other_map = map.to_vec();
+        let given = in_both(
+            memory,
+            |memory| self.0.harvest(memory, pages, map),
+            |memory| self.1.harvest(memory, pages, &mut other_map),
+        );
+        assert!(map == other_map, "with EE turned");
+        given
     }
 }
 

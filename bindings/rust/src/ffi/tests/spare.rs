@@ -62,8 +62,9 @@ pub struct List {
     /// Each reply, and the session behind it; once it has a regime, its EE is
     /// logged as 0 where it is the list's.
     pub log: Vec<u8>,
-    /// Of accesses: successes, faults, refusals, and hits among them.
-    counts: [u32; 4],
+    /// Of accesses: successes, faults, refusals, and hits among them; and the
+    /// pages that harvests reported.
+    counts: [u32; 5],
 }
 
 impl List {
@@ -86,7 +87,7 @@ impl List {
             session: session_empty(),
             memory,
             log: Vec::new(),
-            counts: [0; 4],
+            counts: [0; 5],
         };
         list.noise.fill(bytes(&mut list.session));
         // SAFETY: the session is lent to this call alone.
@@ -153,6 +154,21 @@ impl List {
         answer
     }
 
+    /// A harvest, in the session or plain.
+    fn harvest(&mut self) {
+        let regime = (self.below(4) == 0).then(|| self.regime());
+        let (first, count) = (0x3fe + 64 * self.below(2), self.below(34));
+        let mut map = [0; 4];
+        let memory = &mut self.memory;
+        let reply = match &regime {
+            Some(regime) => harvest(memory, regime, first, count, &mut map),
+            None => session_harvest(&mut self.session, memory, first, count, &mut map),
+        };
+        self.log.push(reply);
+        self.log.extend(map);
+        self.counts[4] += map.iter().map(|byte| byte.count_ones()).sum::<u32>();
+    }
+
     fn call(&mut self) {
         if self.noise.fill == Fill::NoiseInSession {
             each_spare(&mut self.session, |spare| self.noise.fill(spare));
@@ -172,6 +188,7 @@ impl List {
                 self.log.push(reply);
             }
             2 => session_invalidate_all(&mut self.session),
+            3 => self.harvest(),
             which => {
                 let regime = (which < 8).then(|| self.regime());
                 let mut answer = self.ask(regime);
@@ -200,7 +217,7 @@ impl List {
 fn no_say() {
     // The same calls leave the same bytes, whatever stood where the library
     // writes and in the spare bytes it was given.
-    let mut counts = [0; 4];
+    let mut counts = [0; 5];
     for seed in 1..=40 {
         let [zeros, noise, in_session] = [Fill::Zeros, Fill::Noise, Fill::NoiseInSession]
             .map(|fill| List::made(seed, fill, seed as u8 % 2));
@@ -208,9 +225,10 @@ fn no_say() {
             assert!(zeros.log == other.log, "list {seed}");
             assert!(zeros.memory == other.memory, "list {seed}");
         }
-        (0..4).for_each(|i| counts[i] += zeros.counts[i]);
+        (0..5).for_each(|i| counts[i] += zeros.counts[i]);
     }
-    assert!(counts.iter().all(|&count| count > 500), "{counts:?}");
+    let least = [500, 500, 500, 500, 100];
+    assert!((0..5).all(|i| counts[i] > least[i]), "{counts:?}");
 }
 
 #[test]
