@@ -95,7 +95,7 @@ unreachable-first ee p q base a e = rw e (by (leb base a && leb (a + 8) (base + 
     by true u = clash (cc)
     by false u = refl
 
-fetched-at : (ee : Bool) (p : List ℕ) (base a : ℕ) → base ≤ a → a + 8 ≤ base + length p → fetched ee p base a ≡ Value (desc ee p (a - base))
+pub fetched-at : (ee : Bool) (p : List ℕ) (base a : ℕ) → base ≤ a → a + 8 ≤ base + length p → fetched ee p base a ≡ Value (desc ee p (a - base))
 unfolding fetched
 fetched-at ee p base a l h = rw (le-leb base a l, le-leb (a + 8) (base + length p) h)
 
@@ -266,7 +266,3 @@ table-stands k ws p left table x g h b t =
 -- as many bytes
 pub cleans-long : {k : Asked} {ends : List ℕ → ℕ → End} {lo hi : ℕ} {p q : List ℕ} → Cleans k ends lo hi p q → Bytes p → length q ≡ length p
 cleans-long {k} {p = p} c b = c .kept p (cleaned-refl (k .ee) p b) .long
-
--- a cleaning of the pool that the walks began with
-pub cleans-first : (k : Asked) (ends : List ℕ → ℕ → End) (lo hi : ℕ) (p q : List ℕ) → Bytes p → Cleans k ends lo hi p q → (q ≡ pages (cleanedBy k (ends p)) lo (hi - lo) p) × Cleaned (k .ee) p q
-cleans-first k ends lo hi p q b c = let r = cleaned-refl (k .ee) p b in (c .leaves p r, c .kept p r)

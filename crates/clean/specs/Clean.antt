@@ -10,7 +10,8 @@ use Rattle.descriptor.specs.Bytes.{Bytes, desc, put}
 use Rattle.descriptor.specs.Bits.{pick}
 use Rattle.vmsa.specs.Fields.{setAp2}
 use Rattle.lookup.specs.Trace.{End, fault, leaf}
-use Rattle.gather.specs.Ends.{dirty, pagesIn}
+use Rattle.lookup.specs.Steps.{decoded}
+use Rattle.gather.specs.Ends.{dirty, leafDirty, pagesIn}
 
 -- one page after another, n of them from page x on
 unfoldable pub pages : {S : Type 0} → (ℕ → S → S) → ℕ → ℕ → S → S
@@ -41,6 +42,10 @@ setAgain k x pool (leaf a l) =
 -- the same, by where each page's walk ends
 unfoldable pub cleanedBy : Asked → (ℕ → End) → ℕ → List ℕ → List ℕ
 cleanedBy k ends x pool = setAgain k x pool (ends x)
+
+-- the pool with the descriptor of the last level at an offset set again, where it is a page's leaf and dirty
+abbrev pub cleanedAt : Bool → ℕ → ℕ → ℕ → List ℕ → List ℕ
+cleanedAt ee page limit at pool = pick (leafDirty (desc ee pool at) (decoded page limit 0 (desc ee pool at))) (put ee pool at (setAp2 (desc ee pool at))) pool
 
 -- ---- a pool in which some leaves were set again
 

@@ -1,7 +1,7 @@
 -- Where the pages of a table and of an entry end: page by page, entry by entry, and whatever the tables' sum.
 use Prim.Native.Nat.{ℕ, zero, suc, _+_, _*_, _-_, _/_, _%_, _^_, _<_, _≤_}
 use mathlib.Core.Path.{_≡_, refl, sym, ap, _∙_}
-use native.Mathlib.Nat.{div-mul-le-self, lt-div-mul-add, div-eq-of-lt-le, add-mul, div-le-self}
+use native.Mathlib.Nat.{div-mul-le-self, lt-div-mul-add, div-eq-of-lt-le, add-mul, div-add-mod', div-one, mul-zero, mod-add-mod, mod-eq-of-lt}
 use native.Mathlib.Omega.{arith}
 use lib.Pow.{pow-pos, shl-shr, shr-shr}
 use Rattle.vmsa.specs.Fields.{noTables, withTable}
@@ -17,7 +17,7 @@ use Rattle.lookup.specs.declared.Context.{Context}
 use Rattle.lookup.specs.Trace.{End, fault, leaf, Trace, ended}
 use Rattle.lookup.specs.Steps.{entryAt, decoded, onward, onWord, followed, entered, descend}
 use Rattle.lookup.proofs.Levels.{down-up}
-use Rattle.gather.specs.Ends.{dirtyEnd, leafDirty, pagesIn, untabled, Walks, contextFor, entryFor, tableEnd, entryEnd, OneEntry}
+use Rattle.gather.specs.Ends.{dirtyEnd, leafDirty, pagesIn, untabled, Walks, contextFor, entryFor, tableEnd, entryEnd, OneEntry, OneRun}
 
 -- ---- the tables' sum has no say
 
@@ -121,11 +121,8 @@ module _ (k : Walks) (read : ℕ → Word) (left a x : ℕ) where
 
 -- ---- the end of an entry's pages
 
-pub stop-small : (w at : ℕ) → (at / w + 1 ≤ at + 1) × ((at / w + 1) * w ≤ at + w)
-stop-small w at =
-    let p : at / w * w ≤ at = div-mul-le-self at w in
-    let e : (at / w + 1) * w ≡ at / w * w + w = add-mul (at / w) 1 w ∙ omega arith in
-    (omega (arith, div-le-self at w), omega arith)
+pub stop-end : (w at : ℕ) → at - at % w + w ≡ (at / w + 1) * w
+stop-end w at = let e : (at / w + 1) * w ≡ at / w * w + w = add-mul (at / w) 1 w ∙ omega arith in omega (arith, div-add-mod' at w)
 
 pub stop-more : (w at : ℕ) → 0 < w → at < (at / w + 1) * w
 stop-more w at h = let e : (at / w + 1) * w ≡ at / w * w + w = add-mul (at / w) 1 w ∙ omega arith in omega (arith, lt-div-mul-add {a = at} {b = w} h)
@@ -137,3 +134,23 @@ stop-same w at x h p q = div-eq-of-lt-le w (omega (arith, div-mul-le-self at w))
 pub pages-pos : (p left : ℕ) → 0 < pagesIn p left
 unfolding pagesIn
 pages-pos p left = pow-pos (strideBits p * left)
+
+-- ---- entries of the last level that lie one after another
+
+-- at the last level an entry maps one page
+entry-last : (p table x : ℕ) → entryFor p 0 table x ≡ table + 8 * (x % 2 ^ strideBits p)
+unfolding entryFor pagesIn
+entry-last p table x = ap (λ (i : ℕ). table + 8 * (i % 2 ^ strideBits p)) (ap (λ (n : ℕ). x / 2 ^ n) (mul-zero (strideBits p)) ∙ div-one x)
+
+-- going on by d, below the next multiple of e
+mod-on : (e x d : ℕ) → x % e + d < e → (x + d) % e ≡ x % e + d
+mod-on e x d h = sym (mod-add-mod x e d) ∙ mod-eq-of-lt h
+
+-- each page's entry is 8 bytes after the one before it
+pub run-entry : (p table base bytes lo hi : ℕ) → OneRun p table base bytes lo hi → (x : ℕ) → lo ≤ x → x < hi → entryFor p 0 table x ≡ entryFor p 0 table lo + 8 * (x - lo)
+run-entry p table base bytes lo hi one x l h =
+    let e = 2 ^ strideBits p in
+    let q : x % e ≡ lo % e + (x - lo) = ap (λ (n : ℕ). n % e) (let s : x ≡ lo + (x - lo) = omega arith in s) ∙ mod-on e lo (x - lo) (omega (arith, one .onward)) in
+    let a = entry-last p table x in
+    let b = entry-last p table lo in
+    omega (arith, a, b, q)

@@ -1,5 +1,5 @@
 -- What a search notes: range after range, of one entry by what stands there, and over a cleared map.
-use Prim.Native.Nat.{ℕ, _+_, _-_, _/_, _<_, _≤_}
+use Prim.Native.Nat.{ℕ, _+_, _*_, _-_, _/_, _<_, _≤_}
 use mathlib.Core.Bool.{Bool, true, false, _&&_, _||_}
 use mathlib.Core.List.{List}
 use mathlib.Core.Path.{_≡_, refl, sym, ap, _∙_}
@@ -7,7 +7,7 @@ use native.Mathlib.Omega.{arith}
 use lib.Dec.{eqb}
 use borrow.Author.Tests.{le-leb, lt-leb}
 use lib.ListN.{length}
-use Rattle.descriptor.specs.Bytes.{Bytes}
+use Rattle.descriptor.specs.Bytes.{Bytes, desc}
 use Rattle.descriptor.proofs.Tests.{ltb-same}
 use Rattle.vmsa.specs.declared.PhysAddr.{PhysAddr}
 use Rattle.vmsa.specs.declared.FaultKind.{FaultKind}
@@ -15,11 +15,11 @@ use Rattle.lookup.specs.declared.Word.{Word}
 use Rattle.lookup.specs.declared.Word.the-variants.{Value, Unreachable}
 use Rattle.lookup.specs.declared.Next.the-variants as next
 use Rattle.lookup.specs.Trace.{End}
-use Rattle.lookup.specs.Steps.{decoded}
+use Rattle.lookup.specs.Steps.{decoded, fetched}
 use Rattle.bitmap.specs.Map.{bytesFor, mapped, cleared, Raises, between}
 use Rattle.bitmap.proofs.Laws.{split, between-in, between-before, between-after, between-none, between-join, raises-none, raises-same, raises-then, run-one, cleared-raised}
-use Rattle.gather.specs.Ends.{dirty, dirtyEnd, leafDirty, pagesIn, Walks, entryFor, tableEnd, entryEnd, noted, OneEntry}
-use Rattle.gather.proofs.Ends.{table-entry, end-abort, end-fault, end-leaf, end-table, end-dirty}
+use Rattle.gather.specs.Ends.{dirty, dirtyEnd, leafDirty, pagesIn, Walks, walks, entryFor, tableEnd, entryEnd, noted, OneEntry, OneRun}
+use Rattle.gather.proofs.Ends.{table-end, table-entry, run-entry, end-abort, end-fault, end-leaf, end-table, end-dirty}
 
 -- ---- tests of a page
 
@@ -64,10 +64,15 @@ module _ (ends : ℕ → End) (from : ℕ) where
       (λ i. and-or (between lo mid (from + i)) (between mid hi (from + i)) (dirtyEnd (ends (from + i))) ∙ ap (λ (t : Bool). t && dirtyEnd (ends (from + i))) (between-join lo mid hi (from + i) p q))
       (raises-then (noted ends from lo mid) (noted ends from mid hi) a b c r s)
 
+  -- pages of which the same are dirty
+  pub noted-alike : (other : ℕ → End) (lo hi : ℕ) {a b : List ℕ} → ((x : ℕ) → lo ≤ x → x < hi → dirtyEnd (other x) ≡ dirtyEnd (ends x)) → Raises (noted other from lo hi) a b
+      → Raises (noted ends from lo hi) a b
+  noted-alike other lo hi {a} {b} h r =
+      raises-same (noted other from lo hi) (noted ends from lo hi) a b (λ i. range-ext lo hi (from + i) (dirtyEnd (other (from + i))) (dirtyEnd (ends (from + i))) (h (from + i))) r
+
   -- pages that end alike
   pub noted-same : (other : ℕ → End) (lo hi : ℕ) {a b : List ℕ} → ((x : ℕ) → lo ≤ x → x < hi → other x ≡ ends x) → Raises (noted other from lo hi) a b → Raises (noted ends from lo hi) a b
-  noted-same other lo hi {a} {b} h r =
-      raises-same (noted other from lo hi) (noted ends from lo hi) a b (λ i. range-ext lo hi (from + i) (dirtyEnd (other (from + i))) (dirtyEnd (ends (from + i))) (λ p q. ap dirtyEnd (h (from + i) p q))) r
+  noted-same other lo hi h r = noted-alike other lo hi (λ x p q. ap dirtyEnd (h x p q)) r
 
   -- no page is dirty, and every page is
   pub noted-clean : (lo hi : ℕ) (m : List ℕ) → ((x : ℕ) → lo ≤ x → x < hi → dirtyEnd (ends x) ≡ false) → Raises (noted ends from lo hi) m m
@@ -128,6 +133,57 @@ module _ (k : Walks) (read : ℕ → Word) (from a x v : ℕ) (e : read a ≡ Va
   noted-page-dirty {m} {n} h d r =
       let s : x - from + 1 ≡ x + 1 - from = omega arith in
       noted-dirty (entryEnd k read 0 a) from x (x + 1) (λ y p q. end-dirty k read 0 a y v e refl ∙ d) (rw s at (run-one (x - from) r))
+
+-- ---- entries of the last level that lie one after another
+
+-- a descriptor wholly in the pool is read
+fetched-in : (ee : Bool) (pool : List ℕ) (base a at : ℕ) → a ≡ base + at → at + 8 ≤ length pool → fetched ee pool base a ≡ Value (desc ee pool at)
+unfolding fetched
+fetched-in ee pool base a at e h =
+    let p : base ≤ a = omega arith in
+    let q : a + 8 ≤ base + length pool = omega arith in
+    let s : a - base ≡ at = omega arith in
+    rw (le-leb base a p, le-leb (a + 8) (base + length pool) q, s)
+
+-- where page y ends, the entry of page lo being so far into the pool: the pool read as if it began at address 0
+abbrev pub runEnd : PhysAddr → ℕ → Bool → List ℕ → ℕ → ℕ → ℕ → End
+runEnd limit page ee pool first lo y = entryEnd (walks (record { 0 = 0 }) limit page) (fetched ee pool 0) 0 (first + 8 * (y - lo)) y
+
+module _ (limit : PhysAddr) (page : ℕ) (ee : Bool) (pool : List ℕ) (first lo from : ℕ) where
+  -- the entry of page x, its descriptor being v: clean, or dirty
+  module _ (at x v : ℕ) (e : at ≡ first + 8 * (x - lo)) (h : at + 8 ≤ length pool) (is : v ≡ desc ee pool at) where
+    here : {m n : List ℕ} → Raises (noted (entryEnd (walks (record { 0 = 0 }) limit page) (fetched ee pool 0) 0 at) from x (x + 1)) m n
+        → Raises (noted (runEnd limit page ee pool first lo) from x (x + 1)) m n
+    here r =
+        noted-same (runEnd limit page ee pool first lo) from (entryEnd (walks (record { 0 = 0 }) limit page) (fetched ee pool 0) 0 at) x (x + 1)
+        (λ y p q. ap (λ (a : ℕ). entryEnd (walks (record { 0 = 0 }) limit page) (fetched ee pool 0) 0 a y) (let s : at ≡ first + 8 * (y - lo) = omega arith in s)) r
+
+    read : fetched ee pool 0 at ≡ Value v
+    read = fetched-in ee pool 0 at at (omega arith) h ∙ ap Value (sym is)
+
+    pub noted-run-clean : (m : List ℕ) → leafDirty v (decoded page (limit .0) 0 v) ≡ false → Raises (noted (runEnd limit page ee pool first lo) from x (x + 1)) m m
+    noted-run-clean m d = here (noted-page-clean (walks (record { 0 = 0 }) limit page) (fetched ee pool 0) from at x v read m d)
+
+    pub noted-run-dirty : {m n : List ℕ} → from ≤ x → leafDirty v (decoded page (limit .0) 0 v) ≡ true → Raises (λ i. eqb i (x - from)) m n
+        → Raises (noted (runEnd limit page ee pool first lo) from x (x + 1)) m n
+    noted-run-dirty b d r = here (noted-page-dirty (walks (record { 0 = 0 }) limit page) (fetched ee pool 0) from at x v read b d r)
+
+  -- all of them: what the table notes
+  pub noted-run : (base : PhysAddr) (table hi : ℕ) {m n : List ℕ} → OneRun page table (base .0) (length pool) lo hi → first ≡ entryFor page 0 table lo - base .0
+      → Raises (noted (runEnd limit page ee pool first lo) from lo hi) m n → Raises (noted (tableEnd (walks base limit page) (fetched ee pool (base .0)) 0 table) from lo hi) m n
+  noted-run base table hi one f r = noted-alike (tableEnd k (fetched ee pool (base .0)) 0 table) from (runEnd limit page ee pool first lo) lo hi alike r
+    where
+      k : Walks
+      k = walks base limit page
+
+      alike : (y : ℕ) → lo ≤ y → y < hi → dirtyEnd (runEnd limit page ee pool first lo y) ≡ dirtyEnd (tableEnd k (fetched ee pool (base .0)) 0 table y)
+      alike y p q =
+          let at = first + 8 * (y - lo) in
+          let h : first + 8 * (y - lo) + 8 ≤ length pool = omega (arith, one .most, one .least) in
+          let e : entryFor page 0 table y ≡ base .0 + (first + 8 * (y - lo)) = omega (arith, run-entry page table (base .0) (length pool) lo hi one y p q, one .least) in
+          end-dirty (walks (record { 0 = 0 }) limit page) (fetched ee pool 0) 0 at y (desc ee pool at) (fetched-in ee pool 0 at at (omega arith) h) refl
+          ∙ sym (ap dirtyEnd (table-end k (fetched ee pool (base .0)) 0 table y)
+          ∙ end-dirty k (fetched ee pool (base .0)) 0 (entryFor page 0 table y) y (desc ee pool at) (fetched-in ee pool (base .0) (entryFor page 0 table y) at e h) refl)
 
 -- ---- a whole search over cleared bytes
 

@@ -1,6 +1,7 @@
 -- Where the walk of a page ends from a table on, and whether that is a dirty leaf (RULES 17.2). Pages are counted within their range.
-use Prim.Native.Nat.{ℕ, suc, _+_, _*_, _/_, _%_, _^_, _≤_, _<_}
+use Prim.Native.Nat.{ℕ, suc, _+_, _*_, _-_, _/_, _%_, _^_, _≤_, _<_}
 use mathlib.Core.Bool.{Bool, true, false, not, _&&_}
+use mathlib.Core.Logic.{_⊎_}
 use mathlib.Core.Path.{_≡_}
 use Rattle.vmsa.specs.Granules.{Paged}
 use Rattle.vmsa.specs.Fields.{ap2, af, dbm, noTables}
@@ -91,3 +92,18 @@ pub record OneEntry (w lo hi : ℕ) : Type 0 where
 pub record Stops (w lo hi r : ℕ) : Type 0 where
   pub entry : OneEntry w lo r
   pub most : r ≤ hi
+  pub ends : (r ≡ hi) ⊎ (r ≡ (lo / w + 1) * w)
+
+-- the end of the output addresses is 2 to the output size (RULES 3.1)
+pub record Limited (limit : ℕ) : Type 0 where
+  pub bits : ℕ
+  pub least : 32 ≤ bits
+  pub most : bits ≤ 48
+  pub is : limit ≡ 2 ^ bits
+
+-- the entries of the pages from lo on, below hi, of a table of the last level lie one after another (none goes back to the table's start), in a pool of so many bytes at base
+pub record OneRun (page table base bytes lo hi : ℕ) : Type 0 where
+  pub some : lo < hi
+  pub onward : lo % 2 ^ strideBits page + (hi - lo) ≤ 2 ^ strideBits page
+  pub least : base ≤ entryFor page 0 table lo
+  pub most : entryFor page 0 table lo + 8 * (hi - lo) ≤ base + bytes

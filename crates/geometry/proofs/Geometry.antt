@@ -56,7 +56,7 @@ pub cut-lt : (v s : ℕ) → cut v s < addressLimit
 unfolding cut
 cut-lt v s = omega (arith, div-mul-le-self (v % addressLimit) s)
 
--- an output size has at least 32 bits
+-- an output size has at least 32 bits, and at most 48
 pub least-output : (code : ℕ) → 32 ≤ outputBits code
 unfolding outputBits
 least-output zero = lit≤ tt
@@ -66,3 +66,13 @@ least-output (suc (suc (suc zero))) = lit≤ tt
 least-output (suc (suc (suc (suc zero)))) = lit≤ tt
 least-output (suc (suc (suc (suc (suc zero))))) = lit≤ tt
 least-output (suc (suc (suc (suc (suc (suc code)))))) = lit≤ tt
+
+pub most-output : (code : ℕ) → outputBits code ≤ 48
+unfolding outputBits
+most-output zero = lit≤ tt
+most-output (suc zero) = lit≤ tt
+most-output (suc (suc zero)) = lit≤ tt
+most-output (suc (suc (suc zero))) = lit≤ tt
+most-output (suc (suc (suc (suc zero)))) = lit≤ tt
+most-output (suc (suc (suc (suc (suc zero))))) = lit≤ tt
+most-output (suc (suc (suc (suc (suc (suc code)))))) = lit≤ tt

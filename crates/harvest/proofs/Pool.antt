@@ -10,8 +10,8 @@ use lib.Pow.{shl-shr}
 use Rattle.descriptor.specs.Bytes.{Bytes}
 use Rattle.vmsa.specs.Limits.{Sized}
 use Rattle.vmsa.specs.Granules.{pageBitsOf}
-use Rattle.geometry.specs.Geometry.{pageSize, firstLeft, outputLimit}
-use Rattle.geometry.proofs.Geometry.{paged}
+use Rattle.geometry.specs.Geometry.{pageSize, firstLeft, outputBits, outputLimit}
+use Rattle.geometry.proofs.Geometry.{paged, least-output, most-output}
 use Rattle.descriptor.specs.Bits.{pick}
 use Rattle.vmsa.specs.declared.Regime.{Regime}
 use Rattle.vmsa.specs.declared.Range.{Range}
@@ -30,7 +30,7 @@ use Rattle.walk.proofs.Parts.{put-back}
 use Rattle.bitmap.specs.Map.{bytesFor, mapped, cleared, Raises}
 use Rattle.bitmap.proofs.Laws.{cleared-mapped}
 use Rattle.refusals.specs.Tests.{rangePages}
-use Rattle.gather.specs.Ends.{dirtyEnd, Walks, walks, contextFor, tableEnd, noted}
+use Rattle.gather.specs.Ends.{dirtyEnd, Walks, walks, contextFor, tableEnd, noted, Limited}
 use Rattle.gather.proofs.Notes.{noted-mapped}
 use Rattle.clean.specs.Clean.{pages, asked, setAgain, cleanedBy, Cleans}
 use Rattle.clean.proofs.Laws.{pages-still, cleaned-refl}
@@ -41,6 +41,13 @@ use Rattle.harvest.proofs.Link.{rangeFor, walksOf, firstIn, range-at, f
 size-back : (p x : ℕ) → x * pageSize p / pageSize p ≡ x
 unfolding pageSize
 size-back p x = shl-shr x p
+
+-- the output addresses end at 2 to the output size
+pub limited : (r : Regime) (a : ℕ) (c : Context) → c ≡ contextOf r a → Limited (c .limit .0)
+unfolding contextOf outputLimit
+limited r a c e =
+    subst (λ (k : Context). Limited (k .limit .0)) (sym e)
+    (record { bits = outputBits (r .output); least = least-output (r .output); most = most-output (r .output); is = refl })
 
 -- the first table stands at the root of the range
 pub table-root : (r : Regime) (a : ℕ) (root : PhysAddr) → firstTable r a ≡ firsts.Table root → rangeOf r a .root ≡ root

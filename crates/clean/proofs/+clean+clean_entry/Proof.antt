@@ -100,7 +100,7 @@ abbrev μ : clean-lts.MeasureT-loop
 clean-pages-requires : (t : ℕ) → clean-lts.Need-clean-pages-requires (clean-calls t) (clean-at t) clean.Post Inv μ
 clean-pages-requires t c κs =
     let h = c .before .before .before .pre .1 in
-    (record { paged = h .0 .paged; low = omega arith; forward = h .0 .forward; small = h .0 .small }, h .1, h .2, h .3)
+    (record { paged = h .0 .paged; low = omega arith; forward = h .0 .forward; small = h .0 .small }, h .1, h .2, h .3, h .4)
 
 same-length : (t : ℕ) → clean-lts.Need-same-length (clean-calls t) (clean-at t) clean.Post Inv μ
 same-length t c = cleans-long (c .before .before .clean-pages .ensures) (λ i. omega (arith, c .before .before .before .before .before .slice-known .given i))
@@ -120,13 +120,14 @@ clean-entry-requires t c κs =
     let h = c .before .before .before .before .before .before .before .before .pre .1 in
     let l = c .before .before .before .before .loop in
     let s = c .before .before .stop .ensures in
-    let z : c .before .entry-of .result .0 % 8 ≡ 0 = rw (c .before .entry-of .ensures .0) (entry-aligned (a .page) (a .left) (a .table .0) (l .at) (h .1 .aligned)) in (
+    let z : c .before .entry-of .result .0 % 8 ≡ 0 = rw (c .before .entry-of .ensures .0) (entry-aligned (a .page) (a .left) (a .table .0) (l .at) (h .2 .aligned)) in (
       omega arith,
       (
         record { paged = h .0 .paged; low = h .0 .low; forward = omega (arith, s .entry .some); small = omega (arith, s .most, h .0 .small) },
-        record { begin = omega (arith, h .1 .begin); end = omega (arith, s .most, h .1 .end); base-aligned = h .1 .base-aligned; aligned = z },
+        h .1,
+        record { begin = omega (arith, h .2 .begin); end = omega (arith, s .most, h .2 .end); base-aligned = h .2 .base-aligned; aligned = z },
         rw (c .before .before .before .before .before .pages-in .ensures .0) at (s .entry),
-        h .2,
+        h .3,
         c .before .entry-of .ensures .1,
       ),
     )
@@ -175,8 +176,9 @@ entry-clean-requires t c κs =
       omega arith,
       (
         record { paged = p .0 .paged; low = omega arith; forward = p .0 .forward; small = p .0 .small },
-        record { begin = p .1 .begin; end = p .1 .end; base-aligned = p .1 .base-aligned; aligned = aligned8 (a .page) (u .0) (p .0 .paged) (d .aligned) },
-        p .3,
+        p .1,
+        record { begin = p .2 .begin; end = p .2 .end; base-aligned = p .2 .base-aligned; aligned = aligned8 (a .page) (u .0) (p .0 .paged) (d .aligned) },
+        p .4,
         h .0,
       ),
     )
@@ -196,7 +198,7 @@ entry-returns-2 : (t : ℕ) → clean-entry-lts.Need-returns-2 (entry-calls t) (
 entry-returns-2 t c =
     let a = c .before .before .before .before .before .before .before .before .before .args in
     let p = c .before .before .before .before .before .before .before .before .before .pre .1 in
-    cleans-fault (a .ee) (a .base) (a .limit) (a .page) (a .from) (a .to - a .from) (p .0 .paged) (a .left) (a .entry .0) (a .lo) (a .hi) (a .pool .now) (p .1 .base-aligned) (p .1 .aligned) (c .before .before .before .before .v .given .0 .0)
+    cleans-fault (a .ee) (a .base) (a .limit) (a .page) (a .from) (a .to - a .from) (p .0 .paged) (a .left) (a .entry .0) (a .lo) (a .hi) (a .pool .now) (p .2 .base-aligned) (p .2 .aligned) (c .before .before .before .before .v .given .0 .0)
     (sym (c .before .before .before .before .before .before .fetch .ensures) ∙ c .before .before .before .before .v .given .1) (c .enum-told2 .given .0 .0) (sym (c .before .before .decode .ensures .0) ∙ c .enum-told2 .given .1)
 
 entry-same-length-3 : (t : ℕ) → clean-entry-lts.Need-same-length-3 (entry-calls t) (entry-at t) clean-entry.Post
@@ -208,7 +210,7 @@ entry-returns-3 t c =
     let p = c .before .before .before .before .before .before .before .before .before .before .before .before .before .before .pre .1 in
     let u = c .before .before .before .before .before .table .given .0 .0 in
     let h : Sound (a .left) (Table u) = rw (c .before .before .before .before .before .table .given .1) at (c .before .before .before .before .before .before .before .decode .ensures .1) in
-    cleans-table (a .ee) (a .base) (a .limit) (a .page) (a .from) (a .to - a .from) (p .0 .paged) (a .left) (a .entry .0) (a .lo) (a .hi) (a .pool .now) (p .1 .base-aligned) (p .1 .aligned) (c .before .before .before .before .before .before .before .before .before .v .given .0 .0)
+    cleans-table (a .ee) (a .base) (a .limit) (a .page) (a .from) (a .to - a .from) (p .0 .paged) (a .left) (a .entry .0) (a .lo) (a .hi) (a .pool .now) (p .2 .base-aligned) (p .2 .aligned) (c .before .before .before .before .before .before .before .before .before .v .given .0 .0)
     (sym (c .before .before .before .before .before .before .before .before .before .before .before .fetch .ensures) ∙ c .before .before .before .before .before .before .before .before .before .v .given .1) u (sym (c .before .before .before .before .before .before .before .decode .ensures .0) ∙ c .before .before .before .before .before .table .given .1) (h .1) (c .before .before .clean .last .0) (c .before .before .clean .ensures)
 
 entry-returns-4 : (t : ℕ) → clean-entry-lts.Need-returns-4 (entry-calls t) (entry-at t) clean-entry.Post
@@ -220,8 +222,8 @@ entry-returns-4 t c =
     let y : (dirty v && wholeIn (a .from) (a .to - a .from) (pagesIn (a .page) (a .left)) (a .lo)) ≡ true =
     rw (← c .before .before .before .before .before .before .before .before .before .pages-in .ensures .0, ← c .before .before .before .before .before .before .before .before .before .before .dirty .ensures, ← c .before .before .before .before .before .before .before .before .whole-in .ensures) (c .before .before .before .before .before .before .before .if1 .taken) in
     cleans-to (c .before .before .store .ensures ∙ ap (put (a .ee) (a .pool .now) (a .entry .0 - a .base .0)) (c .before .before .before .set-bit .ensures))
-    (cleans-set (a .ee) (a .base) (a .limit) (a .page) (a .from) (a .to - a .from) (p .0 .paged) (a .left) (a .entry .0) (a .lo) (a .hi) (a .pool .now) (p .1 .base-aligned) (p .1 .aligned) v (sym (c .before .before .before .before .before .before .before .before .before .before .before .before .before .before .before .before .before .fetch .ensures) ∙ c .before .before .before .before .before .before .before .before .before .before .before .before .before .before .before .v .given .1)
-    d (p .2) y)
+    (cleans-set (a .ee) (a .base) (a .limit) (a .page) (a .from) (a .to - a .from) (p .0 .paged) (a .left) (a .entry .0) (a .lo) (a .hi) (a .pool .now) (p .2 .base-aligned) (p .2 .aligned) v (sym (c .before .before .before .before .before .before .before .before .before .before .before .before .before .before .before .before .before .fetch .ensures) ∙ c .before .before .before .before .before .before .before .before .before .before .before .before .before .before .before .v .given .1)
+    d (p .3) y)
 
 entry-returns-5 : (t : ℕ) → clean-entry-lts.Need-returns-5 (entry-calls t) (entry-at t) clean-entry.Post
 entry-returns-5 t c =
@@ -231,8 +233,8 @@ entry-returns-5 t c =
     let d : decoded (a .page) (a .limit .0) (a .left) v ≡ Leaf = sym (c .before .before .before .before .before .before .decode .ensures .0) ∙ c .before .before .before .before .enum-told3 .given .1 in
     let n : (dirty v && wholeIn (a .from) (a .to - a .from) (pagesIn (a .page) (a .left)) (a .lo)) ≡ false =
     rw (← c .before .before .pages-in .ensures .0, ← c .before .before .before .dirty .ensures, ← c .before .whole-in .ensures) (c .if1 .left) in
-    cleans-left (a .ee) (a .base) (a .limit) (a .page) (a .from) (a .to - a .from) (p .0 .paged) (a .left) (a .entry .0) (a .lo) (a .hi) (a .pool .now) (p .1 .base-aligned) (p .1 .aligned) v
-    (sym (c .before .before .before .before .before .before .before .before .before .before .fetch .ensures) ∙ c .before .before .before .before .before .before .before .before .v .given .1) d (p .2) n
+    cleans-left (a .ee) (a .base) (a .limit) (a .page) (a .from) (a .to - a .from) (p .0 .paged) (a .left) (a .entry .0) (a .lo) (a .hi) (a .pool .now) (p .2 .base-aligned) (p .2 .aligned) v
+    (sym (c .before .before .before .before .before .before .before .before .before .before .fetch .ensures) ∙ c .before .before .before .before .before .before .before .before .v .given .1) d (p .3) n
 
 pub +clean+clean-entry-spec : {M : Type 1} → statement M
 +clean+clean-entry-spec = close μ-clean μ-clean-entry (λ t. clean-lts.spec (clean-calls t)

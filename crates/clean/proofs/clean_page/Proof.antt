@@ -35,7 +35,7 @@ returns-2 c =
     let e : fetched (a .ee) (a .pool .now) (a .base .0) (a .entry .0) ≡ Value v = sym (c .before .before .before .before .before .before .before .before .before .before .before .before .fetch .ensures) ∙ c .before .before .before .before .before .before .before .before .before .before .v .given .1 in
     let d : leafDirty v (decoded (a .page) (a .limit .0) 0 v) ≡ true = sym (c .before .before .before .before .before .before .before .before .page-dirty .ensures) ∙ c .before .before .before .before .before .before .before .if1 .taken in
     cleans-to (c .before .before .store .ensures ∙ ap (put (a .ee) (a .pool .now) (a .entry .0 - a .base .0)) (c .before .before .before .set-bit .ensures))
-    (page-set (a .ee) (a .base) (a .limit) (a .page) (a .from) (a .to - a .from) (c .before .before .before .before .before .before .before .before .before .before .before .before .before .before .before .pre .0) (a .entry .0) (a .x) (a .pool .now) (c .before .before .before .before .before .before .before .before .before .before .before .before .before .before .before .pre .1) v e d)
+    (page-set (a .ee) (a .base) (a .limit) (a .page) (a .from) (a .to - a .from) (c .before .before .before .before .before .before .before .before .before .before .before .before .before .before .before .pre .0) (a .entry .0) (a .x) (a .pool .now) (c .before .before .before .before .before .before .before .before .before .before .before .before .before .before .before .pre .2) v e d)
 
 returns-3 : tie.Need-returns-3
 returns-3 c =
@@ -43,7 +43,7 @@ returns-3 c =
     let v = c .before .before .before .v .given .0 .0 in
     let e : fetched (a .ee) (a .pool .now) (a .base .0) (a .entry .0) ≡ Value v = sym (c .before .before .before .before .before .fetch .ensures) ∙ c .before .before .before .v .given .1 in
     let d : leafDirty v (decoded (a .page) (a .limit .0) 0 v) ≡ false = sym (c .before .page-dirty .ensures) ∙ c .if1 .left in
-    page-left (a .ee) (a .base) (a .limit) (a .page) (a .from) (a .to - a .from) (c .before .before .before .before .before .before .before .before .pre .0) (a .entry .0) (a .x) (a .pool .now) (c .before .before .before .before .before .before .before .before .pre .1) v e d
+    page-left (a .ee) (a .base) (a .limit) (a .page) (a .from) (a .to - a .from) (c .before .before .before .before .before .before .before .before .pre .0) (a .entry .0) (a .x) (a .pool .now) (c .before .before .before .before .before .before .before .before .pre .2) v e d
 
 pub clean-page-spec : {M : Type 1} → statement M
 clean-page-spec =

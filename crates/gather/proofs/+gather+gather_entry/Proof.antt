@@ -65,7 +65,7 @@ abbrev μ : gather-lts.MeasureT-loop
 gather-pages-requires : (t : ℕ) → gather-lts.Need-gather-pages-requires (gather-calls t) (gather-at t) gather.Post Inv μ
 gather-pages-requires t c κs =
     let p = c .before .before .before .before .pre .1 in
-    (record { paged = p .0 .paged; low = omega arith; forward = p .0 .forward; small = p .0 .small }, p .1, p .2)
+    (record { paged = p .0 .paged; low = omega arith; forward = p .0 .forward; small = p .0 .small }, p .1, p .2, p .3)
 
 gather-returns : (t : ℕ) → gather-lts.Need-returns (gather-calls t) (gather-at t) gather.Post Inv μ
 gather-returns t c =
@@ -82,7 +82,7 @@ gather-stop-requires : (t : ℕ) → gather-lts.Need-stop-requires (gather-calls
 gather-stop-requires t c κs = (c .before .before .pages-in .ensures .1, c .before .before .pages-in .ensures .2, omega arith, c .before .before .before .before .before .before .pre .1 .0 .small)
 
 gather-entry-of-requires : (t : ℕ) → gather-lts.Need-entry-of-requires (gather-calls t) (gather-at t) gather.Post Inv μ
-gather-entry-of-requires t c κs = let p = c .before .before .before .before .before .before .before .pre .1 in (p .0 .paged, p .0 .low, p .2, omega (arith, p .0 .small))
+gather-entry-of-requires t c κs = let p = c .before .before .before .before .before .before .before .pre .1 in (p .0 .paged, p .0 .low, p .3, omega (arith, p .0 .small))
 
 gather-entry-requires : (t : ℕ) → gather-lts.Need-gather-entry-requires (gather-calls t) (gather-at t) gather.Post Inv μ
 gather-entry-requires t c κs =
@@ -93,7 +93,8 @@ gather-entry-requires t c κs =
       omega arith,
       (
         record { paged = p .0 .paged; low = p .0 .low; forward = omega (arith, s .entry .some, s .most); small = omega (arith, s .most, p .0 .small) },
-        record { begin = omega (arith, p .1 .begin); fits = omega (arith, s .most, p .1 .fits) },
+        p .1,
+        record { begin = omega (arith, p .2 .begin); fits = omega (arith, s .most, p .2 .fits) },
         c .before .entry-of .ensures .1,
       ),
     )
@@ -137,7 +138,7 @@ entry-gather-requires t c κs =
     let a = c .before .before .before .before .before .before .before .before .before .before .before .args in
     let p = c .before .before .before .before .before .before .before .before .before .before .before .pre .1 in
     let h : Sound (a .left) (Table (c .before .before .table .given .0 .0)) = rw (c .before .before .table .given .1) at (c .before .before .before .before .decode .ensures .1) in
-    (omega arith, (record { paged = p .0 .paged; low = omega (arith, p .0 .low); forward = p .0 .forward; small = p .0 .small }, p .1, h .0))
+    (omega arith, (record { paged = p .0 .paged; low = omega (arith, p .0 .low); forward = p .0 .forward; small = p .0 .small }, p .1, p .2, h .0))
 
 entry-returns-2 : (t : ℕ) → gather-entry-lts.Need-returns-2 (entry-calls t) (entry-at t) gather-entry.Post
 entry-returns-2 t c =
@@ -167,7 +168,7 @@ entry-returns-5 t c =
 entry-raise-run-requires : (t : ℕ) → gather-entry-lts.Need-raise-run-requires (entry-calls t) (entry-at t) gather-entry.Post
 entry-raise-run-requires t c κs =
     let p = c .before .before .before .before .before .before .before .before .before .before .before .before .pre .1 in
-    (omega (arith, p .0 .forward), omega (arith, p .1 .fits))
+    (omega (arith, p .0 .forward), omega (arith, p .2 .fits))
 
 pub +gather+gather-entry-spec : {M : Type 1} → statement M
 +gather+gather-entry-spec = close μ-gather μ-gather-entry (λ t. gather-lts.spec (gather-calls t)

@@ -16,7 +16,7 @@ returns-2 : tie.Need-returns-2
 returns-2 c =
     let a = c .before .before .before .before .before .before .before .before .before .before .before .before .args in
     noted-page-dirty (walks (a .base) (a .limit) (a .page)) (fetched (a .ee) (a .pool .now) (a .base .0)) (a .from) (a .entry .0) (a .x) (c .before .before .before .before .before .before .before .v .given .0 .0) (sym (c .before .before .before .before .before .before .before .before .before .fetch .ensures) ∙ c .before .before .before .before .before .before .before .v .given .1)
-    (c .before .before .before .before .before .before .before .before .before .before .before .before .pre .1 .begin) (sym (c .before .before .before .before .before .page-dirty .ensures) ∙ c .before .before .before .before .if1 .taken) (c .before .before .raise .ensures)
+    (c .before .before .before .before .before .before .before .before .before .before .before .before .pre .2 .begin) (sym (c .before .before .before .before .before .page-dirty .ensures) ∙ c .before .before .before .before .if1 .taken) (c .before .before .raise .ensures)
 
 returns-3 : tie.Need-returns-3
 returns-3 c =

@@ -1,19 +1,15 @@
 use borrow.Author.Needs.{needs}
-use mathlib.Core.Path.{sym, ap, _∙_}
-use Rattle.gather.specs.Ends.{leafDirty}
+use native.Mathlib.Omega.{arith}
+use lib.Pow.{pow-mono}
+use Rattle.gather.proofs.Masks.{page-told}
 use Rattle.gather.proofs.page_dirty.Statement.{statement}
 use Rattle.gather.proofs.page_dirty.Tie as tie
 
+sub-result : tie.Need-sub-result
+sub-result c = let l = c .before .pre .1 in omega (arith, l .is, pow-mono (l .most))
+
 returns : tie.Need-returns
-returns c = sym (ap (leafDirty _) (sym (c .before .before .decode .ensures .0) ∙ c .enum-told .given .1))
-
-returns-2 : tie.Need-returns-2
-returns-2 c = sym (ap (leafDirty _) (sym (c .before .before .decode .ensures .0) ∙ c .enum-told2 .given .1))
-
-returns-3 : tie.Need-returns-3
-returns-3 c = c .dirty .ensures ∙ sym (ap (leafDirty _) (sym (c .before .before .before .decode .ensures .0) ∙ c .before .enum-told3 .given .1))
+returns c = let a = c .before .args in page-told (a .page) (a .limit .0) (a .v) (c .before .pre .0) (c .before .pre .1)
 
 pub page-dirty-spec : {M : Type 1} → statement M
-page-dirty-spec =
-    tie.close
-    (tie.spec (λ c κs. search needs) (λ c. search needs) (λ c. search needs) (λ c. search needs) (λ c κs. search needs) returns returns-2 returns-3)
+page-dirty-spec = tie.close (tie.spec sub-result (λ c. search needs) returns)

@@ -17,7 +17,7 @@ use Rattle.bitmap.proofs.Laws.{cleared-length}
 use Rattle.checks.proofs.Accept.{settled, asked-accepted, Ranged}
 use Rattle.walk.proofs.Ends.{multiple8, root-aligned}
 use Rattle.harvest.proofs.Place.{Placed, placed}
-use Rattle.harvest.proofs.Pool.{table-root, fits-first, from-small, fault-map, fault-pool, table-map, table-pool}
+use Rattle.harvest.proofs.Pool.{limited, table-root, fits-first, from-small, fault-map, fault-pool, table-map, table-pool}
 use Rattle.harvest.proofs.harvest_pool.Statement.{statement}
 use Rattle.harvest.proofs.harvest_pool.Tie as tie
 
@@ -85,7 +85,7 @@ gather-requires c κs =
     let l = c .before .before .first-left in
     let b : Below (Table (c .before .before .before .before .before .before .before .root .given .0 .0)) = subst Below (c .before .before .before .before .before .before .before .root .given .1) (c .before .before .before .before .before .before .before .before .before .first-table .ensures .1) in
     let n = ap length (c .before .before .before .before .before .before .before .before .before .before .before .before .before .before .before .clear .ensures) ∙ cleared-length (bytesFor (a .count)) (a .map .now) (k .1) in
-    (record { paged = t .ensures .1; low = l .ensures .1; forward = omega arith; small = omega (arith, m) }, record { begin = omega arith; fits = omega (arith, n, k .1) }, b)
+    (record { paged = t .ensures .1; low = l .ensures .1; forward = omega arith; small = omega (arith, m) }, limited (a .r) (a .first * pageSize (pageBitsOf (a .r))) (t .result) d, record { begin = omega arith; fits = omega (arith, n, k .1) }, b)
 
 clean-requires : tie.Need-clean-requires
 unfolding contextOf
@@ -107,6 +107,7 @@ clean-requires c κs =
     ap (λ (j : PhysAddr). j .0 % 8) (sym (table-root (a .r) (a .first * pageSize (pageBitsOf (a .r))) _ e)) ∙ root-aligned (a .r) (a .first * pageSize (pageBitsOf (a .r))) (s .root0) (s .root1) in
     let b : Below (Table (c .before .before .before .before .before .before .before .before .before .before .before .root .given .0 .0)) = subst Below (c .before .before .before .before .before .before .before .before .before .before .before .root .given .1) (c .before .before .before .before .before .before .before .before .before .before .before .before .before .first-table .ensures .1) in (
       record { paged = t .ensures .1; low = l .ensures .1; forward = omega arith; small = omega (arith, m) },
+      limited (a .r) (a .first * pageSize (pageBitsOf (a .r))) (t .result) d,
       record { begin = omega arith; end = omega arith; base-aligned = ap (λ (j : Context). j .base .0 % 8) d ∙ multiple8 (a .r) (a .r .pool .address .0) (s .address .aligned); aligned = q },
       omega arith,
       b,
