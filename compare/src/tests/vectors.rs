@@ -243,16 +243,19 @@ fn the_granule_may_be_left_out() {
 /// What is reported where no party differs over walks a descriptor at a time.
 const SAME_STEPS: &str = "made.txt: 3 cases, 16 calls, 0 differences";
 
-/// That an edit of those walks is told in a case, by these words, for each
-/// party.
-fn step_differs(old: &str, new: &str, case: u32, words: &str) {
-    assert!(STEPWISE.contains(old), "{old}");
-    let file = open(&STEPWISE.replacen(old, new, 1)).unwrap_or_else(|told| panic!("{told}"));
+/// That an edit of a text is told in a case, by these words, for each party.
+fn edit_differs(text: &str, old: &str, new: &str, case: u32, words: &str) {
+    assert!(text.contains(old), "{old}");
+    let file = open(&text.replacen(old, new, 1)).unwrap_or_else(|told| panic!("{told}"));
     let report = file.hold(&Second);
     assert_eq!(report.differences.len(), 2, "{new:?}: {report}");
     let told = &report.differences[0];
     assert!(told.contains(&format!(", case {case}:")), "{told}");
     assert!(told.contains(words), "{new:?}: {told}");
+}
+
+fn step_differs(old: &str, new: &str, case: u32, words: &str) {
+    edit_differs(STEPWISE, old, new, case, words);
 }
 
 #[test]
@@ -363,16 +366,8 @@ end
 /// What is reported where no party differs over harvests.
 const SAME_HARVESTS: &str = "made.txt: 3 cases, 5 calls, 0 differences";
 
-/// That an edit of the harvests is told in a case, by these words, for each
-/// party.
 fn harvest_differs(old: &str, new: &str, case: u32, words: &str) {
-    assert!(HARVESTS.contains(old), "{old}");
-    let file = open(&HARVESTS.replacen(old, new, 1)).unwrap_or_else(|told| panic!("{told}"));
-    let report = file.hold(&Second);
-    assert_eq!(report.differences.len(), 2, "{new:?}: {report}");
-    let told = &report.differences[0];
-    assert!(told.contains(&format!(", case {case}:")), "{told}");
-    assert!(told.contains(words), "{new:?}: {told}");
+    edit_differs(HARVESTS, old, new, case, words);
 }
 
 #[test]

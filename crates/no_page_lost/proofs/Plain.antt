@@ -29,7 +29,7 @@ use Rattle.rule3.specs.Lawful.{unlessRefused}
 use Rattle.rule3.proofs.Final.{lawful}
 use Rattle.rules_harvest.specs.Leaves.{PageLeaf, AskedFor}
 use Rattle.no_page_lost.specs.Lost.{Reported}
-use Rattle.no_page_lost.specs.Plain.{Walking, Harvesting, Refusing, Walks, none, refused, NoPageLostBy}
+use Rattle.no_page_lost.specs.Plain.{Walking, Harvesting, Refusing, PlainCalls, none, refused, NoPageLostBy}
 use Rattle.no_page_lost.specs.Plain as plain
 use Rattle.no_page_lost.proofs.Held.{Held, walked-held, wrote-held}
 use Rattle.no_page_lost.proofs.Harvests.{covered}
@@ -80,7 +80,7 @@ module _ (r : Regime) (W : Walking) (H : Harvesting) (K : Refusing)
     (walks : (a : Access) (m : List ℕ) (o : Result) (n : List ℕ) → W a m o n → (o ≡ walk r a m .result) × (n ≡ walk r a m .bytes))
     (stays : (m n : List ℕ) → K m n → n ≡ m)
     (fills : (first count : ℕ) (m map filled : List ℕ) → H first count m map filled → (harvest r first count m map .reply ≡ Accepted) × (filled ≡ harvest r first count m map .map)) where
-  all-still : (page at : ℕ) {n k : List ℕ} → Walks W K n k → Bytes n → Held r n page at → Bytes k × Held r k page at
+  all-still : (page at : ℕ) {n k : List ℕ} → PlainCalls W K n k → Bytes n → Held r n page at → Bytes k × Held r k page at
   all-still page at none b h = (b, h)
   all-still page at (refused {n = n} {k = k} w made) b h =
       let i = all-still page at w b h in

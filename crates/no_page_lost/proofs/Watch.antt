@@ -42,7 +42,7 @@ use Rattle.rule3.proofs.Memory.{accepted-usable}
 use Rattle.rule3.proofs.Coherence.{Inv, step}
 use Rattle.rule3.proofs.Final.{lawful, chain-inv}
 use Rattle.rules_harvest.specs.Leaves.{PageLeaf, AskedFor}
-use Rattle.no_page_lost.specs.Lost.{Wrote, Harvested, Reported, disturbs, Undisturbed, harvests, Unharvested, TookAt, Took, here, earlier, accesses, StoresDropped, ReportedOnce, NoPageLost}
+use Rattle.no_page_lost.specs.Lost.{Wrote, AcceptedHarvest, Reported, disturbs, Undisturbed, harvests, Unharvested, TookAt, Took, here, earlier, accesses, StoresDropped, ReportedOnce, NoPageLost}
 use Rattle.no_page_lost.proofs.Held.{Held, access-held}
 use Rattle.no_page_lost.proofs.Plain.{wrote-plain}
 use Rattle.no_page_lost.proofs.Harvests.{Takes, harvest-held, covered, leaf-least, same-address}
@@ -225,7 +225,7 @@ module _ (F : Functions SessionStruct) (is : Leaving F) (s₀ : SessionStruct) (
 
   pub reported-once : {s : SessionStruct} {m : List ℕ} {past : List Event} → Chain F s₀ m₀ s m past → (h e : Event) (between before : List Event) → past ≡ h ∷ between ++ e ∷ before
       → (R : Regime) → lastRegime before ≡ some R → settled before ≡ true → (page : ℕ) (w : Wrote R e page) → Undisturbed between
-      → (first count : ℕ) (map : List ℕ) → Harvested h first count map → AskedFor first count page → Reported first map page ⊎ Took R (w .leaf .address) between
+      → (first count : ℕ) (map : List ℕ) → AcceptedHarvest h first count map → AskedFor first count page → Reported first map page ⊎ Took R (w .leaf .address) between
   reported-once none-yet h e between before q R known calm page w u first count map hv asked = clash (cc)
   reported-once (more {s = s} {m = m} {past = past} {c = c} {x = x} chain made) h e between before q R known calm page w u first count map hv asked =
       let hd = head-same q in

@@ -34,7 +34,7 @@ pub record Wrote (R : Regime) (e : Event) (page : ℕ) : Type 0 where
   pub modifier : dbm (leaf .value) ≡ true
 
 -- an accepted harvest of count pages from first on, which left this map
-pub record Harvested (e : Event) (first count : ℕ) (map : List ℕ) : Type 0 where
+pub record AcceptedHarvest (e : Event) (first count : ℕ) (map : List ℕ) : Type 0 where
   pub given : List ℕ
   pub made : e .made ≡ harvest first count given
   pub reply : e .reply ≡ harvested map
@@ -72,7 +72,7 @@ pub record TookAt (R : Regime) (address : ℕ) (e : Event) : Type 0 where
   pub first : ℕ
   pub count : ℕ
   pub map : List ℕ
-  pub harvest : Harvested e first count map
+  pub harvest : AcceptedHarvest e first count map
   pub page : ℕ
   pub asked : AskedFor first count page
   pub leaf : PageLeaf R (e .found) page
@@ -90,7 +90,7 @@ abbrev pub ReportedOnce : {S : Type 0} → Functions S → S → Type 0
 ReportedOnce {S} F s₀ =
     (m₀ : List ℕ) → Bytes m₀ → (s : S) (m : List ℕ) (h e : Event) (between before : List Event) → Chain F s₀ m₀ s m (h ∷ between ++ e ∷ before)
     → (R : Regime) → lastRegime before ≡ some R → settled before ≡ true → (page : ℕ) (w : Wrote R e page) → Undisturbed between
-    → (first count : ℕ) (map : List ℕ) → Harvested h first count map → AskedFor first count page
+    → (first count : ℕ) (map : List ℕ) → AcceptedHarvest h first count map → AskedFor first count page
     → Reported first map page ⊎ Took R (w .leaf .address) between
 
 -- each accepted store of a list is followed by a drop before the next access
@@ -110,4 +110,4 @@ abbrev pub NoPageLost : {S : Type 0} → Functions S → S → Type 0
 NoPageLost {S} F s₀ =
     (m₀ : List ℕ) → Bytes m₀ → (s : S) (m : List ℕ) (h e : Event) (between before : List Event) → Chain F s₀ m₀ s m (h ∷ between ++ e ∷ before)
     → StoresDropped (h ∷ between ++ e ∷ before) → (R : Regime) → lastRegime before ≡ some R → (page : ℕ) → Wrote R e page → Undisturbed between → Unharvested between
-    → (first count : ℕ) (map : List ℕ) → Harvested h first count map → AskedFor first count page → Reported first map page
+    → (first count : ℕ) (map : List ℕ) → AcceptedHarvest h first count map → AskedFor first count page → Reported first map page

@@ -27,15 +27,15 @@ abbrev pub Refusing : Type 1
 Refusing = List ℕ → List ℕ → Type 0
 
 -- walks and refused harvests, one after another
-pub data Walks (W : Walking) (K : Refusing) : List ℕ → List ℕ → Type 0 where
-  none : {m : List ℕ} → Walks W K m m
-  walk : {m n k : List ℕ} {a : Access} {o : Result} → Walks W K m n → W a n o k → Walks W K m k
-  refused : {m n k : List ℕ} → Walks W K m n → K n k → Walks W K m k
+pub data PlainCalls (W : Walking) (K : Refusing) : List ℕ → List ℕ → Type 0 where
+  none : {m : List ℕ} → PlainCalls W K m m
+  walk : {m n k : List ℕ} {a : Access} {o : Result} → PlainCalls W K m n → W a n o k → PlainCalls W K m k
+  refused : {m n k : List ℕ} → PlainCalls W K m n → K n k → PlainCalls W K m k
 
 -- a page that was written on a leaf with DBM set is reported by the next harvest that covers it, whatever walks and refused harvests come between
 abbrev pub NoPageLostBy : Regime → Walking → Harvesting → Refusing → Type 0
 NoPageLostBy r W H K =
     (m : List ℕ) → Bytes m → (a : Access) (o : Result) (n : List ℕ) → W a m o n → (s : Success) → o ≡ success s → writes (a .kind) ≡ true
-    → (l : PageLeaf r m (pageOf (pageBitsOf r) (a .address .0))) → dbm (l .value) ≡ true → (k : List ℕ) → Walks W K n k
+    → (l : PageLeaf r m (pageOf (pageBitsOf r) (a .address .0))) → dbm (l .value) ≡ true → (k : List ℕ) → PlainCalls W K n k
     → (first count : ℕ) (map filled : List ℕ) → H first count k map filled → AskedFor first count (pageOf (pageBitsOf r) (a .address .0))
     → Reported first filled (pageOf (pageBitsOf r) (a .address .0))
