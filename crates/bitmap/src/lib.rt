@@ -1,4 +1,6 @@
 // A lent map of bits: bit n stands in byte n / 8, at place n mod 8 from the lowest.
+#![tactic(auto)]
+
 ghost use Rattle.std.specs.Prelude.{◌≡◌, ◌*◌, ◌≤◌, ◌<◌, eqb, length};
 ghost use Rattle.bitmap.specs.Map.{cleared, Raises, between};
 

@@ -1,5 +1,7 @@
 // The C interface, the harvest of dirty pages: the regime and the session as structs of numbers, memory and map as a pointer and a length each.
 // Nothing that a caller passes is out of contract but a bad pointer, or two that overlap.
+#![tactic(auto)]
+
 ghost use Rattle.std.specs.Prelude.{◌≡◌};
 ghost use Rattle.vmsa.specs.Words.{regime_of};
 ghost use Rattle.harvest.specs.Harvest.{harvested, harvest as harvest_of};

@@ -1,5 +1,7 @@
 // The C interface, the walk a descriptor at a time, but for the offer of a value (capi_value): structs of numbers; only integers and pointers cross.
 // Nothing that a caller passes is out of contract but a bad pointer, or two that overlap.
+#![tactic(auto)]
+
 ghost use Rattle.std.specs.Prelude.{◌≡◌};
 ghost use Rattle.lookup.specs.declared.Word.TheVariants.{Unreachable};
 ghost use Rattle.step_words.specs.Words.{start_words, offer_words, offer_gives};

@@ -1,5 +1,7 @@
 // The C interface, the walk a descriptor at a time, the offer of a value: a struct of numbers; only integers and pointers cross.
 // Nothing that a caller passes is out of contract but a bad pointer. It is a crate of its own so that all that it calls is compiled into the one function.
+#![tactic(auto)]
+
 ghost use Rattle.std.specs.Prelude.{◌≡◌};
 ghost use Rattle.lookup.specs.declared.Word.TheVariants.{Value};
 ghost use Rattle.step_words.specs.Words.{offer_gives, offer_words};

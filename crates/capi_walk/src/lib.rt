@@ -1,5 +1,7 @@
 // The C interface, the plain walk: structs of numbers, the memory as a pointer and a length; only integers and pointers cross.
 // Nothing that a caller passes is out of contract but a bad pointer, or two that overlap.
+#![tactic(auto)]
+
 ghost use Rattle.std.specs.Prelude.{◌≡◌};
 ghost use Rattle.vmsa.specs.Words.{regime_of};
 ghost use Rattle.tlb.specs.Replies.{told};

@@ -1,4 +1,6 @@
 // The order in which a call is checked: the first row of the table that applies gives the refusal.
+#![tactic(auto)]
+
 ghost use Rattle.std.specs.Prelude.{◌≡◌};
 ghost use Rattle.vmsa.specs.Limits.{Sized};
 ghost use Rattle.checks.specs.Order.{and_then, tables_check, regime_check, access_check, walk_check, start_check, asked_check, harvest_check, session_access_check, session_store_check};

@@ -1,5 +1,7 @@
 // The cleaning of dirty leaves: AP[2] is set again in each that is reached with all its pages among those asked for.
 // Tables are gone through as by the search; pages are counted within their range.
+#![tactic(auto)]
+
 ghost use Rattle.std.specs.Prelude.{◌≡◌, ◌+◌, ◌-◌, ◌<◌, ◌≤◌, ◌^◌, length};
 ghost use Rattle.vmsa.specs.Limits.{address_limit};
 ghost use Rattle.vmsa.specs.Granules.{Paged};

@@ -1,4 +1,6 @@
 // What a leaf gives an access: the order of steps 6 to 8, the answer, and the updates that are due.
+#![tactic(auto)]
+
 ghost use Rattle.std.specs.Prelude.{◌≡◌, ◌≤◌, ◌<◌};
 ghost use Rattle.vmsa.specs.Answers.{view};
 ghost use Rattle.decision.specs.Decision.{flag_due, dirty_due, updated as updatedTo, output_of, failing as failingAt, passing as passingAt, decision, hit_kind, seen};

@@ -1,4 +1,6 @@
 // A descriptor of 8 bytes in lent memory, and the bits of a descriptor.
+#![tactic(auto)]
+
 ghost use Rattle.std.specs.Prelude.{◌≡◌, ◌+◌, ◌≤◌, ◌<◌, ◌^◌, [], ◌∷◌, reverse, length};
 ghost use Rattle.descriptor.specs.Bytes.{number, digits, value_of, desc, put};
 ghost use Rattle.descriptor.specs.Bits.{pick, bit as bit_of, field as field_of, set_bit, clear_bit};

@@ -1,5 +1,7 @@
 // The search for dirty leaves: a table is gone through entry by entry, and an entry that points to a table sends the search back in, one level down.
 // Pages are counted within their range; page from has bit 0 of the map.
+#![tactic(auto)]
+
 ghost use Rattle.std.specs.Prelude.{◌↔◌, ◌≡◌, true, ◌+◌, ◌*◌, ◌<◌, ◌≤◌, ◌^◌, length};
 ghost use Rattle.vmsa.specs.Limits.{address_limit};
 ghost use Rattle.vmsa.specs.Granules.{Paged};

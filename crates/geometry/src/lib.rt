@@ -1,4 +1,6 @@
 // The geometry of the tables, for any granule: pages, levels, what an entry maps, the addresses in a descriptor.
+#![tactic(auto)]
+
 ghost use Rattle.std.specs.Prelude.{◌≡◌, ◌≤◌, ◌<◌, ◌^◌};
 ghost use Rattle.vmsa.specs.Granules.{Paged};
 ghost use Rattle.vmsa.specs.Limits.{tsz_least, tsz_most, output_most, address_limit};

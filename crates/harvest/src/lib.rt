@@ -1,4 +1,6 @@
 // The harvest of dirty pages: a lent map of them, and their leaves set again.
+#![tactic(auto)]
+
 ghost use Rattle.std.specs.Prelude.{◌≡◌, ℕ, length};
 ghost use Rattle.bitmap.specs.Map.{mapped};
 ghost use Rattle.checks.specs.Order.{regime_check, asked_check};

@@ -1,4 +1,6 @@
 // One descriptor read and one stored, as C functions: what the benchmark of the lowest layer calls.
+#![tactic(auto)]
+
 ghost use Rattle.std.specs.Prelude.{◌≡◌, ◌+◌, not, eqb, ltb, length};
 ghost use Rattle.descriptor.specs.Bytes.{desc, put};
 ghost use Rattle.descriptor.specs.Bits.{pick};

@@ -1,5 +1,7 @@
 // The lent session: for each call a thin function that takes the session out, makes the call by value, and stores the session handed back where the old one lay.
 // Every decision is in the functions by value, and each contract here is theirs, of what lies behind the reference.
+#![tactic(auto)]
+
 ghost use Rattle.std.specs.Prelude.{◌≡◌};
 ghost use Rattle.vmsa.specs.Answers.{view};
 ghost use Rattle.tlb.specs.Replies.{reply_of, reply_to};

@@ -1,4 +1,6 @@
 // Steps 1 to 5 of the walk: from a guest address to a leaf descriptor, or a fault.
+#![tactic(auto)]
+
 ghost use Rattle.std.specs.Prelude.{◌≡◌, suc, ◌+◌, ◌*◌, ◌≤◌, ◌<◌, ◌^◌};
 ghost use Rattle.vmsa.specs.Limits.{address_limit, tsz_least, tsz_most, output_most, Sized};
 ghost use Rattle.vmsa.specs.Fields.{table_bits, sum_count};

@@ -1,4 +1,6 @@
 // What a leaf permits under the tables above it: the tests of steps 6 to 8 of the walk.
+#![tactic(auto)]
+
 ghost use Rattle.std.specs.Prelude.{◌≡◌, ◌<◌};
 ghost use Rattle.descriptor.specs.Bits.{bit as bit_of};
 ghost use Rattle.permission.specs.Permission.{attribute_of, writable as writableOf, clean as cleanOf, user as userOf, uxn as uxnOf, pxn as pxnOf, may_read, may_fetch_with, permitted as permittedOf, misaligned as misalignedOf, flag_fails, alignment_fails, permission_fails};

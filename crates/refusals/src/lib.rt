@@ -1,4 +1,6 @@
 // When a call is refused: one test for each row of the table.
+#![tactic(auto)]
+
 ghost use Rattle.std.specs.Prelude.{◌≡◌, ◌+◌, ◌-◌, ◌^◌, ◌<◌, ◌≤◌, nat_lt};
 ghost use Rattle.vmsa.specs.Granules.{Paged};
 ghost use Rattle.vmsa.specs.Limits.{tsz_least, tsz_most, harvest_limit, Sized};

@@ -1,1 +1,2 @@
 // What a harvest promises: see specs/.
+#![tactic(auto)]

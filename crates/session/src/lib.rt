@@ -1,4 +1,6 @@
 // The session: a regime and 64 TLB entries, and the five calls. Each takes the session by value and hands it back.
+#![tactic(auto)]
+
 ghost use Rattle.std.specs.Prelude.{◌≡◌};
 ghost use Rattle.vmsa.specs.Answers.{view};
 ghost use Rattle.tlb.specs.Replies.{told, reply_of, reply_to};

@@ -1,4 +1,6 @@
 // A walk a descriptor at a time as a struct of numbers, and its start and offers over it.
+#![tactic(auto)]
+
 ghost use Rattle.std.specs.Prelude.{◌≡◌};
 ghost use Rattle.vmsa.specs.Answers.{number_of, view};
 ghost use Rattle.vmsa.specs.declared.Refusal.TheVariants.{WalkEnded};

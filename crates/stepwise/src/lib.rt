@@ -1,4 +1,6 @@
 // The walk a descriptor at a time: it names the address of the descriptor that it wants next, is offered what stands there, and goes on, until it ends.
+#![tactic(auto)]
+
 ghost use Rattle.std.specs.Prelude.{◌≡◌, ◌≤◌, ◌<◌};
 ghost use Rattle.descriptor.specs.Bits.{pick};
 ghost use Rattle.vmsa.specs.Limits.{address_limit, Sized};

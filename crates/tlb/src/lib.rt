@@ -1,4 +1,6 @@
 // A TLB entry: what it holds, what it answers an access, and what an access leaves of it.
+#![tactic(auto)]
+
 ghost use Rattle.std.specs.Prelude.{◌≡◌, ◌+◌, ◌≤◌, ◌<◌, length};
 ghost use Rattle.std.proofs.Math.Option.{some};
 ghost use Rattle.vmsa.specs.Answers.{view};

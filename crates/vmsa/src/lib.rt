@@ -1,4 +1,6 @@
 // VMSAv8-64: addresses, the translation regime, an access, its answer.
+#![tactic(auto)]
+
 ghost use Rattle.std.specs.Prelude.{◌≡◌, ◌<◌};
 ghost use Rattle.vmsa.specs.Kinds.{is_fetch, is_probe, asks_write, writes as writes_of};
 ghost use Rattle.vmsa.specs.Attributes.{attribute as attribute_of, device as deviceOf};

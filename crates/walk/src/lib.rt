@@ -1,4 +1,6 @@
 // The plain walk: the checks, the pool as a part of the lent memory, the lookup, the permission, the updates.
+#![tactic(auto)]
+
 ghost use Rattle.std.specs.Prelude.{◌≡◌, ◌<◌, ◌%◌};
 ghost use Rattle.std.proofs.Math.Option.{none, some};
 ghost use Rattle.descriptor.specs.Bits.{pick};

@@ -1,4 +1,6 @@
 // An access and an answer as structs of numbers, and the calls of a monitor over them.
+#![tactic(auto)]
+
 ghost use Rattle.std.specs.Prelude.{◌≡◌, ◌+◌, ◌≤◌, ◌<◌, length};
 ghost use Rattle.vmsa.specs.Answers.{refused, view};
 ghost use Rattle.vmsa.specs.Words.{regime_of};

@@ -1,4 +1,6 @@
 // Runs the worked cases P1 to P12, a way through tables of 16 and of 64 KiB, and a session, and prints a line for each access: its answer, and the leaf descriptor afterwards; and one for each harvest.
+#![tactic(auto)]
+
 ghost use Rattle.std.specs.Prelude.{◌≡◌, ◌+◌, ◌≤◌};
 ghost use Rattle.vmsa.specs.Settings.{with_pool};
 ghost use Rattle.walk.specs.Walk.{outcome, walk as walk_of};
