@@ -91,7 +91,8 @@ def foreign(text):
         own = OWN.match(m.group(1) + ".")
         if not (own and own.group(1) in CRATES):
             for item in m.group(2).split(","):
-                names.add(item.split(" as ")[-1].strip())
+                if " as " not in item:
+                    names.add(item.strip())
     return names
 
 
@@ -110,6 +111,17 @@ def snaked(to):
     return {n for n in to if n == snake(n)}
 
 
+def aliases(text):
+    """The new spelling of the names that a file itself gives, as `x as y`."""
+    given = {}
+    for m in re.finditer(r"(?m)^\s*(?:ghost )?use [^\n]*", text):
+        for name in re.findall(r" as ([a-z][\w'-]*)", m.group(0)):
+            if snake(name) != name:
+                given[name] = snake(name)
+    used = set(TOKEN.findall(text))
+    return {name: new for name, new in given.items() if new not in used}
+
+
 def comment_start(line, mark):
     quoted = False
     for i, ch in enumerate(line):
@@ -122,6 +134,7 @@ def comment_start(line, mark):
 
 def turn(path, text, to):
     skip = foreign(text) | (snaked(to) if path.endswith(".rt") else set())
+    to = to | aliases(text)
     mark = "//" if path.endswith(".rt") else "--"
     in_comments = {n: new for n, new in to.items() if "-" not in n}
     out = []

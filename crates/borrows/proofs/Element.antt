@@ -16,7 +16,7 @@ use prog.Memory.{size}
 use prog.Model.{elems}
 use prog.Wp.{Env}
 use types.Logic.{Logic}
-use types.Kit.{Item, ‵, raw, mean, ◌⊛◌, ◌$◌, ◌∵◌, !, qed, move, use1, use2, split, frame, each as for-each, assume, done}
+use types.Kit.{Item, ‵, raw, mean, ◌⊛◌, ◌$◌, ◌∵◌, !, qed, move, use1, use2, split, frame, each as for_each, assume, done}
 use types.Run.{Opd, Rv, bin}
 use types.Part.{Part}
 use denote.Index.{place, place_is}
@@ -32,11 +32,11 @@ module _ {M : Type 1} {𝓤 : Ura M} (𝓛 : Logic 𝓤) (q : Share) (τ : Ty) (
   elem_of : (us : List Val) (k o : ℕ) → k < length us → ent 𝓤 (elems 𝓤 H q τ b o us) (sep 𝓤 (H.at q τ b (place (size τ) o k) (get_or us k vunit)) (all 𝓤 (Back us k o)))
   elem_of [] k o l = absurd (not-suc-le-zero l)
   elem_of (u ∷ us) zero o l =
-      qed 𝓛 ((‵ (fat q τ b o u) ⊛ raw (elems 𝓤 H q τ b (o + size τ) us)) ∷ []) ∵ split ! $ frame ! $ for-each ! (Back (u ∷ us) zero o) (λ w. assume ! (‵ (fat q τ b o w)) $ done !)
+      qed 𝓛 ((‵ (fat q τ b o u) ⊛ raw (elems 𝓤 H q τ b (o + size τ) us)) ∷ []) ∵ split ! $ frame ! $ for_each ! (Back (u ∷ us) zero o) (λ w. assume ! (‵ (fat q τ b o w)) $ done !)
   elem_of (u ∷ us) (suc k) o l =
       qed 𝓛 ((‵ (fat q τ b o u) ⊛ raw (elems 𝓤 H q τ b (o + size τ) us)) ∷ []) ∵ split ! $ move ! (1 ∷ []) $
       use1 𝓛 (‵ (fat q τ b (place (size τ) (o + size τ) k) (get_or us k vunit)) ⊛ raw (all 𝓤 (Back us k (o + size τ)))) (elem_of us k (o + size τ) (le_of_suc-le-suc l)) $ split ! $ frame ! $
-      for-each ! (Back (u ∷ us) (suc k) o) (λ w. assume ! (‵ (fat q τ b (place (size τ) (o + size τ) k) w)) $ move ! (1 ∷ []) $ use1 𝓛 (raw (Back us k (o + size τ) w)) (all_e 𝓤 (Back us k (o + size τ)) w) $ move ! (1 ∷ 0 ∷ []) $
+      for_each ! (Back (u ∷ us) (suc k) o) (λ w. assume ! (‵ (fat q τ b (place (size τ) (o + size τ) k) w)) $ move ! (1 ∷ []) $ use1 𝓛 (raw (Back us k (o + size τ) w)) (all_e 𝓤 (Back us k (o + size τ)) w) $ move ! (1 ∷ 0 ∷ []) $
       use2 𝓛 (raw (elems 𝓤 H q τ b (o + size τ) (set us k w))) (apply∗ 𝓤 (H.at q τ b (place (size τ) (o + size τ) k) w) (elems 𝓤 H q τ b (o + size τ) (set us k w))) $ move ! (1 ∷ 0 ∷ []) $ done !)
 
 module _ {M : Type 1} {𝓤 : Ura M} {𝓛 : Logic 𝓤} {K : Type 0} where
@@ -51,7 +51,7 @@ module _ {M : Type 1} {𝓤 : Ura M} {𝓛 : Logic 𝓤} {K : Type 0} where
     out = qed 𝓛 (i ∷ []) ∵ use1 𝓛 (‵ (fat q (ty_array τ n) b o (vstruct (of_list us))) ⊛ raw (all 𝓤 Entry)) p.out $ split ! $
         use1 𝓛 (raw (elems 𝓤 H q τ b o us)) (𝓛.laws.at_elems q τ n b o us) $
         use1 𝓛 (‵ (fat q τ b (place (size τ) o k) (get_or us k vunit)) ⊛ raw (all 𝓤 (Back 𝓛 q τ b us k o))) (elem_of 𝓛 q τ b us k o l) $ split ! $ frame ! $
-        for-each ! (λ (u : Val). wand 𝓤 (H.at q τ b (place (size τ) o k) u) (mean 𝓛 (back (vstruct (of_list (set us k u)))))) (λ u. assume {P = mean 𝓛 (back (vstruct (of_list (set us k u))))} ! (‵ (fat q τ b (place (size τ) o k) u)) $
+        for_each ! (λ (u : Val). wand 𝓤 (H.at q τ b (place (size τ) o k) u) (mean 𝓛 (back (vstruct (of_list (set us k u)))))) (λ u. assume {P = mean 𝓛 (back (vstruct (of_list (set us k u))))} ! (‵ (fat q τ b (place (size τ) o k) u)) $
         -- [the element's cell with u; the way back to the row; the way back to the entry]
         move ! (1 ∷ []) $ use1 𝓛 (raw (Back 𝓛 q τ b us k o u)) (all_e 𝓤 (Back 𝓛 q τ b us k o) u) $ move ! (1 ∷ 0 ∷ []) $
         use2 𝓛 (raw (elems 𝓤 H q τ b o (set us k u))) (apply∗ 𝓤 (H.at q τ b (place (size τ) o k) u) (elems 𝓤 H q τ b o (set us k u))) $

@@ -13,7 +13,7 @@ use Rattle.checks.specs.declared.Checked.{Checked}
 use Rattle.checks.specs.declared.Checked.TheVariants.{Accepted, Refused}
 use Rattle.checks.specs.Order.{first_of, regime_rows, regime_check}
 use Rattle.checks.proofs.Accept.{settled}
-use Rattle.harvest.specs.Harvest.{Harvested, harvested as harvestedTo}
+use Rattle.harvest.specs.Harvest.{Harvested, harvested as harvested_to}
 use Rattle.harvest.proofs.Laws.{map_kept}
 use Rattle.rules.specs.Rule1.{FirstNumber, Managed}
 use Rattle.rules.proofs.Refusals.{refuses_first}
@@ -137,7 +137,7 @@ pub map_kept_in : (g : Option Regime) (first count : ℕ) (m map : List ℕ) (y 
 map_kept_in none first count m map y q = refl
 map_kept_in (some r) first count m map y q = map_kept r first count m map y q
 
-pub map_kept_leaves : (s s' : SessionStruct) (first count : ℕ) (m map after filled : List ℕ) (x : Checked) → (s', harvestedTo x after filled) ≡ harvest_leaves s first count m map
+pub map_kept_leaves : (s s' : SessionStruct) (first count : ℕ) (m map after filled : List ℕ) (x : Checked) → (s', harvested_to x after filled) ≡ harvest_leaves s first count m map
     → (y : Refusal) → x ≡ Refused y → filled ≡ map
 map_kept_leaves s s' first count m map after filled x e y q =
     ap (λ (t : SessionStruct × Harvested Checked). t.1.map) e

@@ -28,7 +28,7 @@ use Rattle.walk.proofs.Parts.{length_part, part_put}
 use Rattle.rules.specs.Rule1.{FirstNumber}
 use Rattle.rules.specs.Tables.{reader_of}
 use Rattle.rules.proofs.Refusals.{first_refuses, refuses_first}
-use Rattle.harvest.specs.Harvest.{harvest as harvestOver, harvest_by}
+use Rattle.harvest.specs.Harvest.{harvest as harvest_over, harvest_by}
 use Rattle.harvest.proofs.Laws.{harvest_length, harvest_bytes, outside, unheard}
 use Rattle.tlb.specs.Replies.{Reply, done, refused, answered, Told, harvest_reply, updates}
 use Rattle.tlb.specs.Walker.{Spot, lost, found, Entry, empty, held_in, Walked, declined, put_word, walk_from, walked, access_held, access_by, access_in}
@@ -114,7 +114,7 @@ module _ (s : Session) (m : List ℕ) where
   harvest_by_lem r first count map (Refused x) = refl
 
   harvest_rows_lem : (first count : ℕ) (map : List ℕ) (g : Option Regime) → CallBy s m (first_of (rows_of (length m) g (harvest first count map))) (harvest_to ours s (harvest_in ours g first count m map))
-  unfolding harvestOver harvest_check
+  unfolding harvest_over harvest_check
   harvest_rows_lem first count map none = refl
   harvest_rows_lem first count map (some r) = harvest_by_lem r first count map (first_of (harvest_rows (length m) r first count (length map)))
 
@@ -262,7 +262,7 @@ module _ (m n : List ℕ) where
     both_set r (Refused x) = record { reply = refl; session = refl; memory = still }
 
     -- a harvest changes no more than the pool
-    harvest_parted : (r : Regime) (first count : ℕ) (l map : List ℕ) → Parted r.pool.start r.pool.length l (harvestOver r first count l map).memory
+    harvest_parted : (r : Regime) (first count : ℕ) (l map : List ℕ) → Parted r.pool.start r.pool.length l (harvest_over r first count l map).memory
     harvest_parted r first count l map =
         record { long = harvest_length r first count l map; bytes = harvest_bytes r first count l map; outside = outside r first count l map }
 

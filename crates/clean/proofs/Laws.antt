@@ -8,7 +8,7 @@ use native.Mathlib.Nat.{zero-add, suc-add, add-suc, add-zero, mul-zero, div-one,
 use native.Mathlib.Omega.{arith}
 use lib.Dec.{leb, eqb, lit<}
 use lib.ListN.{length}
-use lib.Pow.{field as field-mod}
+use lib.Pow.{field as field_mod}
 use borrow.Author.Tests.{le-leb, eqb-true}
 use Rattle.descriptor.specs.Bits.{pick, set_bit}
 use Rattle.descriptor.specs.Bytes.{Bytes, desc, put}
@@ -118,7 +118,7 @@ unfolding table_bits
 set_alike v = record {
   bit0 = set_other 7 v 0 (λ (e : ◌≡◌ {A = ℕ} 0 7). omega arith);
   bit1 = set_other 7 v 1 (λ (e : ◌≡◌ {A = ℕ} 1 7). omega arith);
-  address = field-mod (set_bit 7 v) 36 12 ∙ ap (λ (x : ℕ). x % 2 ^ 36) (set_above 7 v 12 (lit< tt)) ∙ sym (field-mod v 36 12);
+  address = field_mod (set_bit 7 v) 36 12 ∙ ap (λ (x : ℕ). x % 2 ^ 36) (set_above 7 v 12 (lit< tt)) ∙ sym (field_mod v 36 12);
   tables = ap (λ (x : ℕ). x % 2 ^ 4) (set_above 7 v 59 (lit< tt));
 }
 

@@ -3,7 +3,7 @@
 
 ghost use Rattle.std.specs.Prelude.{◌≡◌, ◌≤◌, ◌<◌};
 ghost use Rattle.vmsa.specs.Answers.{view};
-ghost use Rattle.decision.specs.Decision.{flag_due, dirty_due, updated as updatedTo, output_of, failing as failingAt, passing as passingAt, decision, hit_kind, seen};
+ghost use Rattle.decision.specs.Decision.{flag_due, dirty_due, updated as updated_to, output_of, failing as failing_at, passing as passing_at, decision, hit_kind, seen};
 
 use vmsa::{Access, Answer, Fault, FaultKind, Leaf, PhysAddr, Regime, Success};
 
@@ -47,7 +47,7 @@ pub fn dirty_due(r: Regime, a: Access, l: Leaf) -> bool
 
 // The value with the Access flag set where flag, and AP[2] cleared where dirty.
 pub fn updated(flag: bool, dirty: bool, v: u64) -> u64
-    ensures { result ≡ updatedTo flag dirty v }
+    ensures { result ≡ updated_to flag dirty v }
 {
     let flagged = descriptor::select(flag, descriptor::set_bit(v, vmsa::AF), v);
     descriptor::select(dirty, descriptor::clear_bit(flagged, vmsa::AP2), flagged)
@@ -65,7 +65,7 @@ fn output_of(r: Regime, a: Access, l: Leaf) -> u64
 // The fault of an access that a step stops at a leaf.
 pub fn fault(l: Leaf, reads: u8, kind: FaultKind) -> Fault
     requires { l.left ≤ 3 }
-    ensures { view (Answer.Fault result) ≡ (failingAt l reads kind).result }
+    ensures { view (Answer.Fault result) ≡ (failing_at l reads kind).result }
 {
     Fault {
         kind: kind,
@@ -77,7 +77,7 @@ pub fn fault(l: Leaf, reads: u8, kind: FaultKind) -> Fault
 
 fn failing(l: Leaf, reads: u8, kind: FaultKind) -> Verdict
     requires { l.left ≤ 3 }
-    ensures { seen result ≡ failingAt l reads kind }
+    ensures { seen result ≡ failing_at l reads kind }
 {
     let fault = fault(l, reads, kind);
     Verdict {
@@ -90,7 +90,7 @@ fn failing(l: Leaf, reads: u8, kind: FaultKind) -> Verdict
 // The success of an access that steps 6 to 8 let pass; dirty: it makes the leaf dirty.
 fn success(r: Regime, a: Access, l: Leaf, dirty: bool, reads: u8) -> Success
     requires { (l.left ≤ 3) × (dirty ≡ dirty_due r a l) }
-    ensures { view (Answer.Success result) ≡ (passingAt r a l reads).result }
+    ensures { view (Answer.Success result) ≡ (passing_at r a l reads).result }
 {
     let flag = flag_due(r, a, l);
     Success {
@@ -108,7 +108,7 @@ fn success(r: Regime, a: Access, l: Leaf, dirty: bool, reads: u8) -> Success
 
 fn passing(r: Regime, a: Access, l: Leaf, reads: u8) -> Verdict
     requires { l.left ≤ 3 }
-    ensures { seen result ≡ passingAt r a l reads }
+    ensures { seen result ≡ passing_at r a l reads }
 {
     let flag = flag_due(r, a, l);
     let dirty = dirty_due(r, a, l);

@@ -6,7 +6,7 @@ use native.Mathlib.Nat.{add-div_right, add-mul-mod_self_right, div-eq_of_lt, le-
 use native.Mathlib.Omega.{arith}
 use lib.Dec.{eqb, ltb, lit<}
 use lib.Bits.{bit_or, or_shr, or_mod}
-use lib.Pow.{pow_pos, pow-add, shr-shr, field as field-mod}
+use lib.Pow.{pow_pos, pow-add, shr-shr, field as field_mod}
 use borrow.Author.Tests.{eqb-true, eqb-false, eq-eqb, ne_eqb, ltb-true, ltb-false}
 use Rattle.descriptor.specs.Bits.{pick, bit, set_bit, clear_bit}
 
@@ -113,7 +113,7 @@ others n v w up down m d = by (ltb m n) refl
     by : (b : Bool) → ltb m n ≡ b → bit m w ≡ bit m v
     by true e =
         let l : m < n = ltb-true m n e in
-        ap (λ (x : ℕ). eqb x 1) (sym (field-mod w 1 m) ∙ ap (λ (x : ℕ). x / 2 ^ m) (down (1 + m) (omega arith)) ∙ field-mod v 1 m)
+        ap (λ (x : ℕ). eqb x 1) (sym (field_mod w 1 m) ∙ ap (λ (x : ℕ). x / 2 ^ m) (down (1 + m) (omega arith)) ∙ field_mod v 1 m)
     by false e =
         let l : n ≤ m = ltb-false m n e in
         ap (λ (x : ℕ). eqb (x % 2) 1) (up m (omega arith))

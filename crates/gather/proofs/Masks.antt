@@ -6,7 +6,7 @@ use native.Mathlib.Nat.{mod-lt, mod-mod, add-zero, mul_assoc, add-mul, div-one, 
 use native.Mathlib.Omega.{arith}
 use lib.Dec.{eqb, leb, lit<}
 use lib.Bits.{bit_and, and_block, and_lt, and_mask, and_zero_r}
-use lib.Pow.{pow_pos, pow-add, pow_mono, split, high, low, ones_lt, shr-shr, field as field-mod}
+use lib.Pow.{pow_pos, pow-add, pow_mono, split, high, low, ones_lt, shr-shr, field as field_mod}
 use borrow.Author.Tests.{eqb-true, eqb-false, eq-eqb, ne_eqb, le-leb, lt-leb}
 use Rattle.descriptor.specs.Bits.{pick, bit}
 use Rattle.vmsa.specs.Limits.{address_limit}
@@ -157,7 +157,7 @@ beyond p k v h most = by (eqb (v / 2 ^ k % 2 ^ (48 - k)) 0) refl
     x = v % address_limit
 
     is : x / 2 ^ k ≡ v / 2 ^ k % 2 ^ (48 - k)
-    is = ap (λ (j : ℕ). v % 2 ^ j / 2 ^ k) (let e : 48 ≡ (48 - k) + k = omega arith in e) ∙ field-mod v (48 - k) k
+    is = ap (λ (j : ℕ). v % 2 ^ j / 2 ^ k) (let e : 48 ≡ (48 - k) + k = omega arith in e) ∙ field_mod v (48 - k) k
 
     by : (b : Bool) → eqb (v / 2 ^ k % 2 ^ (48 - k)) 0 ≡ b → leb (2 ^ k) (x / 2 ^ p * 2 ^ p) ≡ not b
     by true e =

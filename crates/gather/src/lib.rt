@@ -7,7 +7,7 @@ ghost use Rattle.vmsa.specs.Limits.{address_limit};
 ghost use Rattle.vmsa.specs.Granules.{Paged};
 ghost use Rattle.lookup.specs.Steps.{fetched, decoded};
 ghost use Rattle.bitmap.specs.Map.{Raises};
-ghost use Rattle.gather.specs.Ends.{dirty as dirtyOf, leaf_dirty, pages_in, pages_most, walks, table_end, entry_end, noted, Searched, Room, OneEntry, Stops, entry_for, Limited, OneRun};
+ghost use Rattle.gather.specs.Ends.{dirty as dirty_of, leaf_dirty, pages_in, pages_most, walks, table_end, entry_end, noted, Searched, Room, OneEntry, Stops, entry_for, Limited, OneRun};
 
 use lookup::{Next, Word};
 use vmsa::PhysAddr;
@@ -19,7 +19,7 @@ const DIRTY_PAGE: u64 = 0x8000000000403;
 
 // Whether a leaf says dirty: AF and DBM set, AP[2] clear.
 pub fn dirty(v: u64) -> bool
-    ensures { result ≡ dirtyOf v }
+    ensures { result ≡ dirty_of v }
 {
     descriptor::bit(v, vmsa::AF) & descriptor::bit(v, vmsa::DBM) & !descriptor::bit(v, vmsa::AP2)
 }

@@ -4,21 +4,21 @@
 ghost use Rattle.std.specs.Prelude.{◌≡◌, ◌≤◌, ◌<◌, ◌^◌};
 ghost use Rattle.vmsa.specs.Granules.{Paged};
 ghost use Rattle.vmsa.specs.Limits.{tsz_least, tsz_most, output_most, address_limit};
-ghost use Rattle.geometry.specs.Geometry.{page_size as pageSizeOf, unaligned as unalignedAt, page_of, level_of, stride_bits, shift_of, span as span_of, block_at, first_left, cut as cut_at, output_limit};
+ghost use Rattle.geometry.specs.Geometry.{page_size as page_size_of, unaligned as unaligned_at, page_of, level_of, stride_bits, shift_of, span as span_of, block_at, first_left, cut as cut_at, output_limit};
 
 use vmsa::VirtAddr;
 
 // The bytes of a page, and of a table.
 pub fn page_size(p: u8) -> u64
     requires { p ≤ 16 }
-    ensures { (result ≡ pageSizeOf p) × (0 < result) }
+    ensures { (result ≡ page_size_of p) × (0 < result) }
 {
     descriptor::power(p)
 }
 
 pub fn unaligned(p: u8, x: u64) -> bool
     requires { p ≤ 16 }
-    ensures { result ≡ unalignedAt p x }
+    ensures { result ≡ unaligned_at p x }
 {
     x % page_size(p) != 0
 }
@@ -102,7 +102,7 @@ fn cut(v: u64, n: u64) -> u64
 // The address of a table in its descriptor.
 pub fn table_in(p: u8, v: u64) -> u64
     requires { p ≤ 16 }
-    ensures { (result ≡ cut_at v (pageSizeOf p)) × (result < address_limit) }
+    ensures { (result ≡ cut_at v (page_size_of p)) × (result < address_limit) }
 {
     cut(v, p as u64)
 }

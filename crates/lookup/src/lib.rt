@@ -7,7 +7,7 @@ ghost use Rattle.vmsa.specs.Fields.{table_bits, sum_count};
 ghost use Rattle.vmsa.specs.Granules.{Paged};
 ghost use Rattle.geometry.specs.Geometry.{level_of};
 ghost use Rattle.lookup.specs.Trace.{fault, ended, under_hpd, shown};
-ghost use Rattle.lookup.specs.Steps.{is_table, decoded, Sound, fetched, pool_reader, context, entry_at, followed, descend, upper as upperAt, range_of, outside as outsideAt, context_of, first_table, Below, locate as locateAt};
+ghost use Rattle.lookup.specs.Steps.{is_table, decoded, Sound, fetched, pool_reader, context, entry_at, followed, descend, upper as upper_at, range_of, outside as outside_at, context_of, first_table, Below, locate as locate_at};
 ghost use Rattle.lookup.specs.Packing.{kind_number, kind_numbered, joined, packed, Packs};
 
 use vmsa::{FaultKind, Leaf, PhysAddr, Range, Regime, VirtAddr};
@@ -266,7 +266,7 @@ fn unpack(pool: &[u8], ee: bool, base: PhysAddr, hpd: bool, first: u8, n: u64) -
 }
 
 fn upper(a: VirtAddr) -> bool
-    ensures { result ≡ upperAt a.0 }
+    ensures { result ≡ upper_at a.0 }
 {
     descriptor::bit(a.0, 55)
 }
@@ -282,7 +282,7 @@ pub fn range_of(r: Regime, a: VirtAddr) -> Range
 // Whether an address lies outside a range of size field t.
 pub fn outside(t: u8, a: VirtAddr) -> bool
     requires { (tsz_least ≤ t) × (t ≤ tsz_most) }
-    ensures { result ≡ outsideAt t a.0 }
+    ensures { result ≡ outside_at t a.0 }
 {
     a.0 / descriptor::power(64 - t) != descriptor::select(upper(a), descriptor::power(t) - 1, 0)
 }
@@ -320,7 +320,7 @@ pub fn context_of(r: Regime, range: Range, a: VirtAddr) -> Context
 // Steps 1 to 5.
 pub fn locate(pool: &[u8], r: Regime, a: VirtAddr) -> Located
     requires { Sized r }
-    ensures { result ≡ shown 0 (locateAt r (pool_reader r pool.now) a.0) }
+    ensures { result ≡ shown 0 (locate_at r (pool_reader r pool.now) a.0) }
 {
     let range = range_of(r, a);
     match first_table(r, range, a) {

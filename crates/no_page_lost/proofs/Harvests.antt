@@ -24,7 +24,7 @@ use Rattle.bitmap.proofs.Laws.{mapped_bit}
 use Rattle.gather.specs.Ends.{dirty, dirty_end, pages_in}
 use Rattle.clean.specs.Clean.{pages, whole_in, Asked, cleaned_by, Again, Cleaned}
 use Rattle.harvest.specs.Harvest.{reached, reports, asked_of, clean_pool, harvest}
-use Rattle.walk.proofs.Ends.{found as found-leaf}
+use Rattle.walk.proofs.Ends.{found as found_leaf}
 use Rattle.tlb.specs.Walker.{found}
 use Rattle.tlb.proofs.Walking.{usable_sized, usable_root}
 use Rattle.tlb.specs.Ours.{usable, offset_of, located}
@@ -51,7 +51,7 @@ same_address R a b h k e = omega arith
 pub leaf_least : (R : Regime) (m : List ℕ) (page : ℕ) → usable R ≡ true → (l : PageLeaf R m page) → R.pool.address.0 ≤ l.address
 unfolding reached traced
 leaf_least R m page u l =
-    (found-leaf R (pool_bytes R.pool m) (page * page_size (page_bits_of R)) l.address _ (usable_sized R u) (usable_root R (page * page_size (page_bits_of R)) u) l.reaches).inside.least
+    (found_leaf R (pool_bytes R.pool m) (page * page_size (page_bits_of R)) l.address _ (usable_sized R u) (usable_root R (page * page_size (page_bits_of R)) u) l.reaches).inside.least
 
 -- where the session's lookup finds a leaf, the page reaches it
 pub reaches_held : (R : Regime) (m : List ℕ) (page at : ℕ) → (h : Held R m page at) → (address : ℕ) × (reached R (pool_bytes R.pool m) page ≡ leaf address h.leaf) × (offset_of R address ≡ at)

@@ -18,10 +18,10 @@ use Rattle.words.specs.declared.AnswerWords.{AnswerWords}
 use Rattle.words.specs.Words.{words_of, access_of}
 use Rattle.calls.proofs.Lists.{made_leaves}
 use Rattle.rule3.proofs.Final.{begun_fresh}
-use Rattle.rules_lent.proofs.Chains.{made_leaves as lent-leaves}
+use Rattle.rules_lent.proofs.Chains.{made_leaves as lent_leaves}
 use Rattle.rules_c.specs.Readings.{result_in}
 use Rattle.rules_c.proofs.Numbers.{result_in_lem}
-use Rattle.rules_c.proofs.Chains.{made_leaves as c-leaves, empty_fresh}
+use Rattle.rules_c.proofs.Chains.{made_leaves as c_leaves, empty_fresh}
 use Rattle.rules_harvest.proofs.Tied.{harvest_code, harvest_c}
 use Rattle.no_page_lost.specs.Code.{NoPageLostOfCode, NoPageLostOfLent, NoPageLostOfC, ReportedOnceOfCode, ReportedOnceOfLent, ReportedOnceOfC, WalkMade, walked, HarvestMade, harvested, HarvestRefused, refused, NoPageLostByCode, WalkMadeC, walked_c, HarvestMadeC, harvested_c, HarvestRefusedC, refused_c, NoPageLostByC}
 use Rattle.no_page_lost.proofs.Plain.{no_page_lost_by}
@@ -33,19 +33,19 @@ pub no_page_lost_code : NoPageLostOfCode
 no_page_lost_code s₀ h = no_page_lost_of _ made_leaves s₀ (begun_fresh s₀ h)
 
 pub no_page_lost_lent : NoPageLostOfLent
-no_page_lost_lent s₀ h = no_page_lost_of _ lent-leaves s₀ (begun_fresh s₀ h)
+no_page_lost_lent s₀ h = no_page_lost_of _ lent_leaves s₀ (begun_fresh s₀ h)
 
 pub no_page_lost_c : NoPageLostOfC
-no_page_lost_c s₀ h = no_page_lost_of _ c-leaves s₀ (empty_fresh s₀ h)
+no_page_lost_c s₀ h = no_page_lost_of _ c_leaves s₀ (empty_fresh s₀ h)
 
 pub reported_once_code : ReportedOnceOfCode
 reported_once_code s₀ h = reported_once_of _ made_leaves s₀ (begun_fresh s₀ h)
 
 pub reported_once_lent : ReportedOnceOfLent
-reported_once_lent s₀ h = reported_once_of _ lent-leaves s₀ (begun_fresh s₀ h)
+reported_once_lent s₀ h = reported_once_of _ lent_leaves s₀ (begun_fresh s₀ h)
 
 pub reported_once_c : ReportedOnceOfC
-reported_once_c s₀ h = reported_once_of _ c-leaves s₀ (empty_fresh s₀ h)
+reported_once_c s₀ h = reported_once_of _ c_leaves s₀ (empty_fresh s₀ h)
 
 -- ---- by plain walks and the plain harvest
 

@@ -3,7 +3,7 @@ use Rattle.std.specs.Prelude.{ℕ, ◌%◌, Bool, true, false, not, ◌&&◌, �
 use Rattle.descriptor.specs.Bits.{pick}
 use Rattle.vmsa.specs.Kinds.{is_fetch, is_probe, asks_write}
 use Rattle.vmsa.specs.Attributes.{attribute, device}
-use Rattle.vmsa.specs.Fields.{attribute_index, ap1, ap2, af, dbm, pxn as pxnIn, uxn as uxnIn, no_write_below, no_user_below, uxn_below, pxn_below}
+use Rattle.vmsa.specs.Fields.{attribute_index, ap1, ap2, af, dbm, pxn as pxn_in, uxn as uxn_in, no_write_below, no_user_below, uxn_below, pxn_below}
 use Rattle.vmsa.specs.declared.Regime.{Regime}
 use Rattle.vmsa.specs.declared.Access.{Access}
 use Rattle.vmsa.specs.declared.Leaf.{Leaf}
@@ -26,10 +26,10 @@ user l = ap1 l.value && not (no_user_below l.tables)
 
 -- UXN and PXN, of the leaf or of a table
 unfoldable pub uxn : Leaf → Bool
-uxn l = uxnIn l.value || uxn_below l.tables
+uxn l = uxn_in l.value || uxn_below l.tables
 
 unfoldable pub pxn : Leaf → Bool
-pxn l = pxnIn l.value || pxn_below l.tables
+pxn l = pxn_in l.value || pxn_below l.tables
 
 -- EL1 reads always. EL0 reads if AP[1]
 unfoldable pub may_read : Bool → Leaf → Bool

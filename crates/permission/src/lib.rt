@@ -3,7 +3,7 @@
 
 ghost use Rattle.std.specs.Prelude.{◌≡◌, ◌<◌};
 ghost use Rattle.descriptor.specs.Bits.{bit as bit_of};
-ghost use Rattle.permission.specs.Permission.{attribute_of, writable as writableOf, clean as cleanOf, user as userOf, uxn as uxnOf, pxn as pxnOf, may_read, may_fetch_with, permitted as permittedOf, misaligned as misalignedOf, flag_fails, alignment_fails, permission_fails};
+ghost use Rattle.permission.specs.Permission.{attribute_of, writable as writable_of, clean as clean_of, user as user_of, uxn as uxn_of, pxn as pxn_of, may_read, may_fetch_with, permitted as permitted_of, misaligned as misaligned_of, flag_fails, alignment_fails, permission_fails};
 
 use vmsa::{Access, Leaf, Regime};
 
@@ -25,7 +25,7 @@ fn below(l: Leaf, n: u8) -> bool
 
 // W (RULES 7.1): writable, clean or dirty.
 pub fn writable(r: Regime, l: Leaf) -> bool
-    ensures { result ≡ writableOf r l }
+    ensures { result ≡ writable_of r l }
 {
     !below(l, vmsa::NO_WRITE_BELOW)
         & (!descriptor::bit(l.value, vmsa::AP2) | descriptor::bit(l.value, vmsa::DBM) & r.ha & r.hd)
@@ -33,14 +33,14 @@ pub fn writable(r: Regime, l: Leaf) -> bool
 
 // Writable-clean: a write would make it dirty.
 pub fn clean(r: Regime, l: Leaf) -> bool
-    ensures { result ≡ cleanOf r l }
+    ensures { result ≡ clean_of r l }
 {
     descriptor::bit(l.value, vmsa::AP2) & writable(r, l)
 }
 
 // AP[1], UXN and PXN as they count under the tables above.
 fn user(l: Leaf) -> bool
-    ensures { result ≡ userOf l }
+    ensures { result ≡ user_of l }
 {
     if descriptor::bit(l.value, vmsa::AP1) {
         return !below(l, vmsa::NO_USER_BELOW);
@@ -49,13 +49,13 @@ fn user(l: Leaf) -> bool
 }
 
 fn uxn(l: Leaf) -> bool
-    ensures { result ≡ uxnOf l }
+    ensures { result ≡ uxn_of l }
 {
     descriptor::bit(l.value, vmsa::UXN) | below(l, vmsa::UXN_BELOW)
 }
 
 fn pxn(l: Leaf) -> bool
-    ensures { result ≡ pxnOf l }
+    ensures { result ≡ pxn_of l }
 {
     descriptor::bit(l.value, vmsa::PXN) | below(l, vmsa::PXN_BELOW)
 }
@@ -78,7 +78,7 @@ fn may_fetch(wxn: bool, el0: bool, w: bool, l: Leaf) -> bool
 
 // Whether a leaf permits an access; a read asks nothing of W.
 pub fn permitted(r: Regime, a: Access, l: Leaf) -> bool
-    ensures { result ≡ permittedOf r a l }
+    ensures { result ≡ permitted_of r a l }
 {
     let kind = a.kind;
     let fetch = kind.is_fetch();
@@ -95,7 +95,7 @@ pub fn permitted(r: Regime, a: Access, l: Leaf) -> bool
 // A read, write or update whose address is not a multiple of its size.
 pub fn misaligned(a: Access) -> bool
     requires { 0 < a.size }
-    ensures { result ≡ misalignedOf a }
+    ensures { result ≡ misaligned_of a }
 {
     let kind = a.kind;
     !(kind.is_fetch() | kind.is_probe()) & !(a.address.0 % a.size == 0)

@@ -5,7 +5,7 @@ use mathlib.Core.Bool.{Bool, true, false, not, ◌&&◌, ◌||◌}
 use mathlib.Core.Path.{◌≡◌, refl, sym, ap, ap₂, ◌∙◌}
 use native.Mathlib.Omega.{arith}
 use lib.Dec.{lit≤, lit<}
-use lib.Pow.{field as field-mod}
+use lib.Pow.{field as field_mod}
 use Rattle.descriptor.specs.Bits.{pick, bit, field, clear_bit}
 use Rattle.descriptor.proofs.Tests.{and_true, or_none, differ}
 use Rattle.descriptor.proofs.BitLaws.{clear_above, clear_bit_lem, clear_other}
@@ -22,7 +22,7 @@ use Rattle.vmsa.specs.declared.Leaf.{Leaf}
 use Rattle.vmsa.specs.declared.FaultKind.{FaultKind}
 use Rattle.vmsa.specs.declared.FaultKind.TheVariants.{AccessFlag, Alignment, Permission}
 use Rattle.lookup.proofs.Decoding.{cut_same}
-use Rattle.permission.specs.Permission.{attribute_of, writable, clean, user, uxn as uxnOf, pxn as pxnOf, flag_fails, alignment_fails, permission_fails}
+use Rattle.permission.specs.Permission.{attribute_of, writable, clean, user, uxn as uxn_of, pxn as pxn_of, flag_fails, alignment_fails, permission_fails}
 use Rattle.permission.proofs.Effective.{permission_same}
 use Rattle.decision.specs.Decision.{Decision, flag_due, dirty_due, updated, cacheable, output_of, failing, passing, decision}
 use Rattle.rules.proofs.Updates.{updated_none, updated_af, index_clear}
@@ -131,7 +131,7 @@ module _ (v : ℕ) where
   shareability_cleared = ap (λ (x : ℕ). x % 2 ^ 2) (clear_above 7 v 8 (lit< tt))
 
   address_cleared : clear_ap2 v % address_limit / 4096 ≡ v % address_limit / 4096
-  address_cleared = field-mod (clear_ap2 v) 36 12 ∙ ap (λ (x : ℕ). x % 2 ^ 36) (clear_above 7 v 12 (lit< tt)) ∙ sym (field-mod v 36 12)
+  address_cleared = field_mod (clear_ap2 v) 36 12 ∙ ap (λ (x : ℕ). x % 2 ^ 36) (clear_above 7 v 12 (lit< tt)) ∙ sym (field_mod v 36 12)
 
 cut_cleared : (p v left : ℕ) → 12 ≤ p → cut (clear_ap2 v) (span p left) ≡ cut v (span p left)
 unfolding span
@@ -162,12 +162,12 @@ module _ (r : Regime) (a : Access) (v left sum : ℕ) (e : ap2 v ≡ true) (g : 
   unfolding user old new
   user_cleared = rw (ap1_cleared v)
 
-  uxn_leaf : uxnOf new ≡ uxnOf old
-  unfolding uxnOf old new
+  uxn_leaf : uxn_of new ≡ uxn_of old
+  unfolding uxn_of old new
   uxn_leaf = rw (uxn_cleared v)
 
-  pxn_leaf : pxnOf new ≡ pxnOf old
-  unfolding pxnOf old new
+  pxn_leaf : pxn_of new ≡ pxn_of old
+  unfolding pxn_of old new
   pxn_leaf = rw (pxn_cleared v)
 
   attribute_cleared : attribute_of r new ≡ attribute_of r old

@@ -6,7 +6,7 @@ use mathlib.Core.Path.{◌≡◌, refl, sym, ap, ap₂, subst, ◌∙◌}
 use native.Mathlib.Omega.{arith}
 use lib.Dec.{leb, eqb, lit<, lit≤}
 use lib.ListN.{length, drop}
-use lib.Pow.{field as field-mod}
+use lib.Pow.{field as field_mod}
 use borrow.Author.Tests.{eqb-true, eqb-false, eq-eqb, ne_eqb, leb-true}
 use Rattle.descriptor.specs.Bytes.{Bytes, desc, put}
 use Rattle.descriptor.specs.Bits.{pick, bit, set_bit, clear_bit}
@@ -88,10 +88,10 @@ unfolding updated
 alike_updated f d v = by f d
   where
     above_set : (x : ℕ) → set_bit 10 x % address_limit / 4096 ≡ x % address_limit / 4096
-    above_set x = field-mod (set_bit 10 x) 36 12 ∙ ap (λ (y : ℕ). y % 2 ^ 36) (set_above 10 x 12 (lit< tt)) ∙ sym (field-mod x 36 12)
+    above_set x = field_mod (set_bit 10 x) 36 12 ∙ ap (λ (y : ℕ). y % 2 ^ 36) (set_above 10 x 12 (lit< tt)) ∙ sym (field_mod x 36 12)
 
     above_clear : (x : ℕ) → clear_bit 7 x % address_limit / 4096 ≡ x % address_limit / 4096
-    above_clear x = field-mod (clear_bit 7 x) 36 12 ∙ ap (λ (y : ℕ). y % 2 ^ 36) (clear_above 7 x 12 (lit< tt)) ∙ sym (field-mod x 36 12)
+    above_clear x = field_mod (clear_bit 7 x) 36 12 ∙ ap (λ (y : ℕ). y % 2 ^ 36) (clear_above 7 x 12 (lit< tt)) ∙ sym (field_mod x 36 12)
 
     flagged : (x : ℕ) → Alike x (set_bit 10 x)
     flagged x = record { bit0 = sym (set_other 10 x 0 (λ e. omega arith)); bit1 = sym (set_other 10 x 1 (λ e. omega arith)); address = sym (above_set x); tables = sym (set_bits x) }

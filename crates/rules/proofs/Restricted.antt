@@ -6,7 +6,7 @@ use native.Mathlib.Omega.{arith}
 use lib.Dec.{lit≤}
 use Rattle.descriptor.specs.Bits.{pick, bit, set_bit}
 use Rattle.descriptor.proofs.BitLaws.{set_bit_lem, clear_bit_lem, set_other, clear_other}
-use Rattle.vmsa.specs.Fields.{attribute_index, ap1, ap2, af, dbm, pxn as pxnIn, uxn as uxnIn, no_write_below, no_user_below, uxn_below, pxn_below}
+use Rattle.vmsa.specs.Fields.{attribute_index, ap1, ap2, af, dbm, pxn as pxn_in, uxn as uxn_in, no_write_below, no_user_below, uxn_below, pxn_below}
 use Rattle.vmsa.specs.declared.Regime.{Regime}
 use Rattle.vmsa.specs.declared.Access.{Access}
 use Rattle.vmsa.specs.declared.Leaf.{Leaf}
@@ -87,21 +87,21 @@ module _ (sum v : ℕ) where
       ∙ settled ap1 (no_user_below sum) without_user second false (clear_bit_lem 6 second)
       ∙ ap (pick (no_user_below sum) false) (past_second ap1 (λ x. set_other _ x 6 (λ e. omega arith)) (λ x. set_other _ x 6 (λ e. omega arith)))
 
-  uxn_settled : uxnIn (restricted_value sum v) ≡ pick (uxn_below sum) true (uxnIn v)
+  uxn_settled : uxn_in (restricted_value sum v) ≡ pick (uxn_below sum) true (uxn_in v)
   unfolding restricted_value
   uxn_settled =
       past_last 54 (λ e. omega arith) (λ e. omega arith)
-      ∙ unchanged uxnIn (no_user_below sum) without_user second (clear_other _ second 54 (λ e. omega arith))
-      ∙ settled uxnIn (uxn_below sum) with_uxn first true (set_bit_lem 54 first)
-      ∙ ap (pick (uxn_below sum) true) (past_first uxnIn (λ x. set_other _ x 54 (λ e. omega arith)))
+      ∙ unchanged uxn_in (no_user_below sum) without_user second (clear_other _ second 54 (λ e. omega arith))
+      ∙ settled uxn_in (uxn_below sum) with_uxn first true (set_bit_lem 54 first)
+      ∙ ap (pick (uxn_below sum) true) (past_first uxn_in (λ x. set_other _ x 54 (λ e. omega arith)))
 
-  pxn_settled : pxnIn (restricted_value sum v) ≡ pick (pxn_below sum) true (pxnIn v)
+  pxn_settled : pxn_in (restricted_value sum v) ≡ pick (pxn_below sum) true (pxn_in v)
   unfolding restricted_value
   pxn_settled =
       past_last 53 (λ e. omega arith) (λ e. omega arith)
-      ∙ unchanged pxnIn (no_user_below sum) without_user second (clear_other _ second 53 (λ e. omega arith))
-      ∙ unchanged pxnIn (uxn_below sum) with_uxn first (set_other _ first 53 (λ e. omega arith))
-      ∙ settled pxnIn (pxn_below sum) with_pxn v true (set_bit_lem 53 v)
+      ∙ unchanged pxn_in (no_user_below sum) without_user second (clear_other _ second 53 (λ e. omega arith))
+      ∙ unchanged pxn_in (uxn_below sum) with_uxn first (set_other _ first 53 (λ e. omega arith))
+      ∙ settled pxn_in (pxn_below sum) with_pxn v true (set_bit_lem 53 v)
 
 -- ---- the tests of steps 6 to 8
 
@@ -132,11 +132,11 @@ module _ (r : Regime) (a : Access) (l : Leaf) where
 
   uxn_same : uxn l ≡ uxn (restricted l)
   unfolding uxn
-  uxn_same = rw (uxn_settled l.tables l.value) (or_set (uxn_below l.tables) (uxnIn l.value))
+  uxn_same = rw (uxn_settled l.tables l.value) (or_set (uxn_below l.tables) (uxn_in l.value))
 
   pxn_same : pxn l ≡ pxn (restricted l)
   unfolding pxn
-  pxn_same = rw (pxn_settled l.tables l.value) (or_set (pxn_below l.tables) (pxnIn l.value))
+  pxn_same = rw (pxn_settled l.tables l.value) (or_set (pxn_below l.tables) (pxn_in l.value))
 
   attribute_same : attribute_of r l ≡ attribute_of r (restricted l)
   unfolding attribute_of

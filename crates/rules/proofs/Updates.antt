@@ -7,7 +7,7 @@ use mathlib.Core.Option.{none, some}
 use mathlib.Core.Path.{◌≡◌, refl, sym, ap, ◌∙◌}
 use native.Mathlib.Omega.{arith}
 use lib.Dec.{lit<}
-use lib.Pow.{field as field-mod}
+use lib.Pow.{field as field_mod}
 use borrow.Author.Tests.{not-true, not-false}
 use Rattle.descriptor.specs.Bits.{bit, set_bit, clear_bit}
 use Rattle.descriptor.proofs.Tests.{differ, and_true, or_false}
@@ -30,10 +30,10 @@ use Rattle.rules.proofs.StepLaws.{Fault, first_fault, no_fault}
 -- ---- the attribute index, where a bit above it is set or cleared
 
 pub index_set : (n v : ℕ) → 5 ≤ n → attribute_index (set_bit n v) ≡ attribute_index v
-index_set n v h = sym (field-mod (set_bit n v) 3 2) ∙ ap (λ (x : ℕ). x / 2 ^ 2) (set_below n v 5 h) ∙ field-mod v 3 2
+index_set n v h = sym (field_mod (set_bit n v) 3 2) ∙ ap (λ (x : ℕ). x / 2 ^ 2) (set_below n v 5 h) ∙ field_mod v 3 2
 
 pub index_clear : (n v : ℕ) → 5 ≤ n → attribute_index (clear_bit n v) ≡ attribute_index v
-index_clear n v h = sym (field-mod (clear_bit n v) 3 2) ∙ ap (λ (x : ℕ). x / 2 ^ 2) (clear_below n v 5 h) ∙ field-mod v 3 2
+index_clear n v h = sym (field_mod (clear_bit n v) 3 2) ∙ ap (λ (x : ℕ). x / 2 ^ 2) (clear_below n v 5 h) ∙ field_mod v 3 2
 
 -- ---- the bits of an updated descriptor
 

@@ -5,8 +5,8 @@ use Rattle.descriptor.specs.Bits.{bit}
 use Rattle.geometry.specs.Geometry.{level_of, span, cut, output_limit}
 use Rattle.vmsa.specs.Granules.{page_bits_of}
 use Rattle.vmsa.specs.Kinds.{is_probe, asks_write, writes}
-use Rattle.vmsa.specs.Attributes.{attribute as attributeByte}
-use Rattle.vmsa.specs.Fields.{attribute_index, shareability as shareabilityOf, nonglobal as nonglobalOf, af, ap2, dbm, sum_count, no_write_below, no_user_below, uxn_below, pxn_below}
+use Rattle.vmsa.specs.Attributes.{attribute as attribute_byte}
+use Rattle.vmsa.specs.Fields.{attribute_index, shareability as shareability_of, nonglobal as nonglobal_of, af, ap2, dbm, sum_count, no_write_below, no_user_below, uxn_below, pxn_below}
 use Rattle.vmsa.specs.Answers.{Faulted, success, fault as faulted, code_of}
 use Rattle.vmsa.specs.declared.Regime.{Regime}
 use Rattle.vmsa.specs.declared.Access.{Access}
@@ -65,9 +65,9 @@ pub record Placed {r : Regime} {a : Access} {m : List ℕ} (l : LeafOf r a m) : 
 -- the right address and attributes: the leaf's address and the offset in its span, and the leaf's fields
 pub record Right {r : Regime} {a : Access} {m : List ℕ} (l : LeafOf r a m) (s : Success) : Type 0 where
   pub output : s.output.0 ≡ cut l.value (span (page_bits_of r) l.left) + a.address.0 % span (page_bits_of r) l.left
-  pub attribute : s.attribute ≡ attributeByte r.attributes (attribute_index l.value)
-  pub shareability : s.shareability ≡ shareabilityOf l.value
-  pub nonglobal : s.nonglobal ≡ nonglobalOf l.value
+  pub attribute : s.attribute ≡ attribute_byte r.attributes (attribute_index l.value)
+  pub shareability : s.shareability ≡ shareability_of l.value
+  pub nonglobal : s.nonglobal ≡ nonglobal_of l.value
   pub level : s.level ≡ level_of l.left
 
 -- bit 10 (AF) from v to w, and whether the answer says that it was set: unchanged, or from 0 to 1 with HA on, and by no probe

@@ -15,7 +15,7 @@ use Rattle.vmsa.specs.declared.Access.{Access}
 use Rattle.vmsa.specs.declared.Refusal.TheVariants.{NoRegime}
 use Rattle.walk.specs.Walk.{walk}
 use Rattle.rules.specs.Rule1.{FirstNumber, here}
-use Rattle.tlb.specs.Replies.{Reply, refused as refusedWith, Told, reply_of, uncounted, dirties}
+use Rattle.tlb.specs.Replies.{Reply, refused as refused_with, Told, reply_of, uncounted, dirties}
 use Rattle.tlb.specs.Walker.{no_regime}
 use Rattle.tlb.specs.Ours.{ours}
 use Rattle.session.specs.declared.Session.{Session as SessionStruct}
@@ -57,13 +57,13 @@ module _ (s : SessionStruct) (n : List ℕ) (a : AccessWords) (s' : SessionStruc
       let x = access_answer (session_view s) n (access_of a) in
       (x.0, ap (λ (y : Handed SessionStruct AnswerWords). y.reply) h ∙ ap reply_words x.1 ∙ reply_words_lem x.0)
 
-  read_refused : (k : ℕ) → answer_reply w ≡ refusedWith k → (w.tag ≡ 2) × (w.refusal ≡ k)
+  read_refused : (k : ℕ) → answer_reply w ≡ refused_with k → (w.tag ≡ 2) × (w.refusal ≡ k)
   read_refused k e =
       let x = own_result in
       let z : x.0 ≡ refused k = refused_read x.0 k (sym (ap reply_of (ap result_in x.1 ∙ result_in_lem x.0)) ∙ e) in
       subst (λ (y : AnswerWords). (y.tag ≡ 2) × (y.refusal ≡ k)) (sym x.1) (is_refused x.0 k z)
 
-  refused_reads : (k : ℕ) → (w.tag ≡ 2) × (w.refusal ≡ k) → answer_reply w ≡ refusedWith k
+  refused_reads : (k : ℕ) → (w.tag ≡ 2) × (w.refusal ≡ k) → answer_reply w ≡ refused_with k
   refused_reads k p =
       let x = own_result in
       let q : ((words_of x.0).tag ≡ 2) × ((words_of x.0).refusal ≡ k) = subst (λ (y : AnswerWords). (y.tag ≡ 2) × (y.refusal ≡ k)) x.1 p in

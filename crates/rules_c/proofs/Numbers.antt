@@ -16,7 +16,7 @@ use Rattle.vmsa.specs.declared.Success.{Success}
 use Rattle.checks.specs.declared.Checked.{Checked}
 use Rattle.checks.specs.declared.Checked.TheVariants.{Accepted, Refused}
 use Rattle.checks.specs.Order.{first_of, memory_rows, setting_rows, store_rows, and_then}
-use Rattle.tlb.specs.Replies.{Reply, done, refused as refusedWith, answered, harvested, Told, reply_of, reply_to, harvest_reply, uncounted, dirties}
+use Rattle.tlb.specs.Replies.{Reply, done, refused as refused_with, answered, harvested, Told, reply_of, reply_to, harvest_reply, uncounted, dirties}
 use Rattle.tlb.specs.Ours.{ours}
 use Rattle.session.specs.Model.{Session, set_by, store_by, store_in, set_regime, access, store, call}
 use Rattle.session.proofs.Calls.{access_answer}
@@ -35,7 +35,7 @@ result_in_lem (refused n) = refl
 answer_in : (x : Result) → answer_reply (reply_words (reply_of x)) ≡ reply_of x
 answer_in x = ap answer_reply (reply_words_lem x) ∙ ap reply_of (result_in_lem x)
 
-number_in : (x : Refusal) → number_reply (number_of x) ≡ refusedWith (number_of x)
+number_in : (x : Refusal) → number_reply (number_of x) ≡ refused_with (number_of x)
 number_in x = rw (not_zero x)
 
 -- ---- by the tag
@@ -72,7 +72,7 @@ of_refused (fault f) t = clash (cc)
 of_refused (refused n) t = refl
 
 -- a refusal is read as one, and no other answer is
-pub refused_read : (x : Result) (k : ℕ) → reply_of x ≡ refusedWith k → x ≡ refused k
+pub refused_read : (x : Result) (k : ℕ) → reply_of x ≡ refused_with k → x ≡ refused k
 refused_read (success s) k e = clash (cc)
 refused_read (fault f) k e = clash (cc)
 refused_read (refused n) k e = let z : n ≡ k = cc in ap refused z
@@ -113,7 +113,7 @@ harvest_read_lem (Refused x) map = rw (not_zero x)
 pub words_uncounted : (y : Reply) → counted_words 0 (reply_words y) ≡ reply_words (uncounted y)
 unfolding words_of
 words_uncounted done = refl
-words_uncounted (refusedWith n) = refl
+words_uncounted (refused_with n) = refl
 words_uncounted (answered o n) = refl
 words_uncounted (harvested map) = refl
 

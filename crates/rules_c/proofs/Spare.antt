@@ -9,7 +9,7 @@ use Rattle.descriptor.specs.Bits.{pick}
 use Rattle.descriptor.proofs.Lists.{map_set}
 use Rattle.vmsa.specs.Settings.{initial}
 use Rattle.vmsa.specs.Words.{flag, regime_of, regime_words, regime_spare0}
-use Rattle.vmsa.specs.Answers.{Result, success, fault, refused as refusedWith}
+use Rattle.vmsa.specs.Answers.{Result, success, fault, refused as refused_with}
 use Rattle.vmsa.specs.declared.Regime.{Regime}
 use Rattle.vmsa.specs.declared.RegimeWords.{RegimeWords}
 use Rattle.vmsa.specs.declared.Access.{Access}
@@ -18,7 +18,7 @@ use Rattle.checks.specs.declared.Checked.{Checked}
 use Rattle.checks.specs.declared.Checked.TheVariants.{Accepted, Refused}
 use Rattle.checks.specs.Order.{regime_check, and_then}
 use Rattle.walk.specs.Walk.{walk}
-use Rattle.harvest.specs.Harvest.{Harvested, harvest as harvestOver}
+use Rattle.harvest.specs.Harvest.{Harvested, harvest as harvest_over}
 use Rattle.tlb.specs.declared.Entry.{Entry as EntryStruct}
 use Rattle.tlb.specs.Replies.{Reply, done, refused, answered, harvested, Told, told, harvest_reply}
 use Rattle.tlb.specs.Walker.{entry_count, Walked, access_in}
@@ -159,13 +159,13 @@ words_zero : (o : Result) → (words_of o).spare ≡ 0
 unfolding words_of
 words_zero (success s) = refl
 words_zero (fault f) = refl
-words_zero (refusedWith n) = refl
+words_zero (refused_with n) = refl
 
 reply_zero : (x : Reply) → (reply_words x).spare ≡ 0
-reply_zero done = words_zero (refusedWith 0)
-reply_zero (refused n) = words_zero (refusedWith n)
+reply_zero done = words_zero (refused_with 0)
+reply_zero (refused n) = words_zero (refused_with n)
 reply_zero (answered o n) = words_zero o
-reply_zero (harvested pages) = words_zero (refusedWith 0)
+reply_zero (harvested pages) = words_zero (refused_with 0)
 
 -- ---- every list
 
@@ -191,7 +191,7 @@ spare_of_c = record {
   set = λ s m g h e s' t' m' n' k l p q. handed_parts (handed s' m' k) (handed t' n' l) (p ∙ ap (λ (r : Regime). replied refusal_byte (leaves s m (set_regime r))) (regimes_alike g h e) ∙ sym q);
   access = λ s m a b e s' t' m' n' w x p q. handed_parts (handed s' m' w) (handed t' n' x) (p ∙ ap (λ (v : Access). replied reply_words (leaves s m (access v))) (accesses_alike a b e) ∙ sym q);
   harvest = λ m g h first count pages e m' n' map' nap' k l p q.
-      let z = p ∙ ap (λ (r : Regime). harvest_numbered (harvestOver r first count m pages)) (regimes_alike g h e) ∙ sym q in
+      let z = p ∙ ap (λ (r : Regime). harvest_numbered (harvest_over r first count m pages)) (regimes_alike g h e) ∙ sym q in
       (ap (λ (t : Harvested ℕ). t.memory) z, ap (λ (t : Harvested ℕ). t.map) z, ap (λ (t : Harvested ℕ). t.reply) z);
   session = λ s t e m c x y p q. handed_parts (spareless x) (spareless y) (ap spareless (made_is p) ∙ sessions s t e m c ∙ sym (ap spareless (made_is q)));
   walked = λ m g a m' w p. ap (λ (t : Told AnswerWords). t.reply.spare) p ∙ words_zero (walk (regime_of g) (access_of a) m).result;

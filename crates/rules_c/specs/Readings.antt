@@ -4,7 +4,7 @@ use Rattle.descriptor.specs.Bits.{pick}
 use Rattle.vmsa.specs.Words.{flag}
 use Rattle.vmsa.specs.Answers.{Result, success, fault, refused, Faulted}
 use Rattle.vmsa.specs.declared.Success.{Success}
-use Rattle.tlb.specs.Replies.{Reply, done, refused as refusedWith, harvested, reply_of}
+use Rattle.tlb.specs.Replies.{Reply, done, refused as refused_with, harvested, reply_of}
 use Rattle.words.specs.declared.AnswerWords.{AnswerWords}
 
 abbrev pub success_in : AnswerWords → Success
@@ -32,8 +32,8 @@ answer_reply w = reply_of (result_in w)
 
 -- a number of a set regime or a store: 0 is done, any other that of a refusal
 abbrev pub number_reply : ℕ → Reply
-number_reply n = pick (eqb n 0) done (refusedWith n)
+number_reply n = pick (eqb n 0) done (refused_with n)
 
 -- that of a harvest, with the map that it left
 abbrev pub harvest_read : ℕ → List ℕ → Reply
-harvest_read n map = pick (eqb n 0) (harvested map) (refusedWith n)
+harvest_read n map = pick (eqb n 0) (harvested map) (refused_with n)

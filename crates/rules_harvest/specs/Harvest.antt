@@ -11,7 +11,7 @@ use Rattle.vmsa.specs.declared.Refusal.{Refusal}
 use Rattle.checks.specs.declared.Checked.{Checked}
 use Rattle.checks.specs.declared.Checked.TheVariants.{Accepted, Refused}
 use Rattle.checks.specs.Order.{regime_check, harvest_rows}
-use Rattle.lookup.specs.Steps.{upper, range_of, outside as outsideRange}
+use Rattle.lookup.specs.Steps.{upper, range_of, outside as outside_range}
 use Rattle.walk.specs.Walk.{pool_bytes}
 use Rattle.bitmap.specs.Map.{map_bit}
 use Rattle.harvest.specs.Harvest.{harvest}
@@ -27,7 +27,7 @@ RefusedWith k x = (y : Refusal) × (x ≡ Refused y) × (number_of y ≡ k)
 pub record Askable (r : Regime) (first count bytes : ℕ) : Type 0 where
   pub some : 1 ≤ count
   pub most : count ≤ 65536
-  pub inside : (page : ℕ) → AskedFor first count page → outsideRange (range_of r (page * page_size (page_bits_of r))).tsz (page * page_size (page_bits_of r)) ≡ false
+  pub inside : (page : ℕ) → AskedFor first count page → outside_range (range_of r (page * page_size (page_bits_of r))).tsz (page * page_size (page_bits_of r)) ≡ false
   pub one : (page : ℕ) → AskedFor first count page → upper (page * page_size (page_bits_of r)) ≡ upper (first * page_size (page_bits_of r))
   pub room : count ≤ 8 * bytes
 

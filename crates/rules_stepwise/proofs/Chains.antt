@@ -16,7 +16,7 @@ use Rattle.checks.proofs.Accept.{start_accepted}
 use Rattle.lookup.specs.declared.Word.{Word}
 use Rattle.lookup.specs.declared.Next.TheVariants as next
 use Rattle.lookup.specs.declared.First.TheVariants as first
-use Rattle.lookup.specs.Trace.{End, Trace, ended as endedTrace, end_under_hpd, visit}
+use Rattle.lookup.specs.Trace.{End, Trace, ended as ended_trace, end_under_hpd, visit}
 use Rattle.lookup.specs.Steps.{range_of}
 use Rattle.lookup.proofs.Reach.{first_low}
 use Rattle.stepwise.specs.declared.Wanting.{Wanting}
@@ -48,7 +48,7 @@ module _ (w : Wanting) (read : ℕ → Word) (o : Word) where
   abbrev at : ℕ
   at = w.address.0
 
-  one : (e : End) → rest_of w read ≡ visit at (endedTrace e) → Along w read (record { address = at; word = o } ∷ []) (ended (conclusion w.regime w.access (reads_at w) (end_under_hpd (hpd_of w) e)))
+  one : (e : End) → rest_of w read ≡ visit at (ended_trace e) → Along w read (record { address = at; word = o } ∷ []) (ended (conclusion w.regime w.access (reads_at w) (end_under_hpd (hpd_of w) e)))
   unfolding reads_at
   one e q = (
     ap (λ (t : Trace). t.visited) (sym q),

@@ -5,7 +5,7 @@ use mathlib.Core.Path.{◌≡◌, refl, sym, ap, subst, ◌∙◌}
 use Rattle.descriptor.specs.Bits.{pick}
 use Rattle.descriptor.proofs.Tests.{clash, or_false}
 use Rattle.vmsa.specs.Granules.{page_bits_of}
-use Rattle.vmsa.specs.Answers.{success, refused as refusedWith}
+use Rattle.vmsa.specs.Answers.{success, refused as refused_with}
 use Rattle.vmsa.specs.declared.Regime.{Regime}
 use Rattle.vmsa.specs.declared.Access.{Access}
 use Rattle.vmsa.specs.declared.Leaf.{Leaf}
@@ -101,16 +101,16 @@ fine_leaf w n v d = (leaf_says w.regime w.access w.address.0 (leaf_at w v) n, le
 
 -- ---- what is concluded is no refusal
 
-not_refused : (r : Regime) (a : Access) (l : Leaf) (n k : ℕ) → (decision r a l n).result ≡ refusedWith k → ⊥
+not_refused : (r : Regime) (a : Access) (l : Leaf) (n k : ℕ) → (decision r a l n).result ≡ refused_with k → ⊥
 unfolding decision failing passing
 not_refused r a l n k = by (flag_fails r l) (alignment_fails r a l) (permission_fails r a l)
   where
-    by : (x y z : Bool) → (pick x (failing l n AccessFlag) (pick y (failing l n Alignment) (pick z (failing l n Permission) (passing r a l n)))).result ≡ refusedWith k → ⊥
+    by : (x y z : Bool) → (pick x (failing l n AccessFlag) (pick y (failing l n Alignment) (pick z (failing l n Permission) (passing r a l n)))).result ≡ refused_with k → ⊥
     by true y z e = clash (cc)
     by false true z e = clash (cc)
     by false false true e = clash (cc)
     by false false false e = clash (cc)
 
-pub conclusion_answers : (r : Regime) (a : Access) (n : ℕ) (x : End) (k : ℕ) → (conclusion r a n x).result ≡ refusedWith k → ⊥
+pub conclusion_answers : (r : Regime) (a : Access) (n : ℕ) (x : End) (k : ℕ) → (conclusion r a n x).result ≡ refused_with k → ⊥
 conclusion_answers r a n (fault kind level) k e = clash (cc)
 conclusion_answers r a n (leaf at l) k e = not_refused r a l n k e

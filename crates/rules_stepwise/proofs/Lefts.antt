@@ -17,7 +17,7 @@ use Rattle.lookup.specs.declared.Word.{Word}
 use Rattle.lookup.specs.declared.Word.TheVariants.{Value, Unreachable}
 use Rattle.lookup.specs.declared.Next.{Next}
 use Rattle.lookup.specs.declared.Next.TheVariants as next
-use Rattle.lookup.specs.Trace.{fault, leaf, Trace, ended as endedTrace, visit}
+use Rattle.lookup.specs.Trace.{fault, leaf, Trace, ended as ended_trace, visit}
 use Rattle.lookup.specs.Steps.{decoded, entry_at, on_word, followed, entered, descend}
 use Rattle.lookup.specs.Steps as steps
 use Rattle.lookup.proofs.Decoding.{table_above}
@@ -76,7 +76,7 @@ module _ (w : Wanting) (v : ℕ) (table : PhysAddr) (d : says_at w v ≡ next.Ta
 
 -- from a table's entry on
 abbrev pub entry_trace : Context → (ℕ → Word) → ℕ → ℕ → ℕ → Trace
-entry_trace c read left sum at = visit at (on_word (endedTrace (fault ExternalAbort (level_of left))) (followed c (descend c read left) sum left at) (read at))
+entry_trace c read left sum at = visit at (on_word (ended_trace (fault ExternalAbort (level_of left))) (followed c (descend c read left) sum left at) (read at))
 
 pub descend_entry : (c : Context) (read : ℕ → Word) (left sum table : ℕ) → descend c read (suc left) sum table ≡ entry_trace c read left sum (entry_at c left table)
 unfolding descend entered
@@ -89,17 +89,17 @@ module _ (w : Wanting) (read : ℕ → Word) where
   abbrev at : ℕ
   at = w.address.0
 
-  pub rest_aborted : read at ≡ Unreachable → rest_of w read ≡ visit at (endedTrace (fault ExternalAbort (level_of (left_at w))))
+  pub rest_aborted : read at ≡ Unreachable → rest_of w read ≡ visit at (ended_trace (fault ExternalAbort (level_of (left_at w))))
   rest_aborted e = rw e
 
   rest_by : (v : ℕ) → read at ≡ Value v → (x : Next) → says_at w v ≡ x → rest_of w read ≡ visit at (steps.onward (descend (context_at w) read (left_at w)) w.tables (left_at w) at v x)
   unfolding followed
   rest_by v e x d = rw (e, d)
 
-  pub rest_faulted : (v : ℕ) → read at ≡ Value v → (kind : FaultKind) → says_at w v ≡ next.Fault kind → rest_of w read ≡ visit at (endedTrace (fault kind (level_of (left_at w))))
+  pub rest_faulted : (v : ℕ) → read at ≡ Value v → (kind : FaultKind) → says_at w v ≡ next.Fault kind → rest_of w read ≡ visit at (ended_trace (fault kind (level_of (left_at w))))
   rest_faulted v e kind d = rest_by v e (next.Fault kind) d
 
-  pub rest_reached : (v : ℕ) → read at ≡ Value v → says_at w v ≡ next.Leaf → rest_of w read ≡ visit at (endedTrace (leaf at (record { value = v; left = left_at w; tables = w.tables })))
+  pub rest_reached : (v : ℕ) → read at ≡ Value v → says_at w v ≡ next.Leaf → rest_of w read ≡ visit at (ended_trace (leaf at (record { value = v; left = left_at w; tables = w.tables })))
   rest_reached v e d = rest_by v e next.Leaf d
 
   pub rest_deeper : (v : ℕ) → read at ≡ Value v → (table : PhysAddr) → says_at w v ≡ next.Table table → rest_of w read ≡ visit at (rest_of (below w v table) read)

@@ -4,7 +4,7 @@ use mathlib.Core.List.{List, [], ◌∷◌, ◌++◌}
 use mathlib.Core.Option.{none, some}
 use mathlib.Core.Path.{◌≡◌, refl, sym, ap, subst, ◌∙◌}
 use Rattle.descriptor.proofs.Tests.{clash}
-use Rattle.vmsa.specs.Answers.{refused as refusedWith, number_of}
+use Rattle.vmsa.specs.Answers.{refused as refused_with, number_of}
 use Rattle.vmsa.specs.Fields.{no_tables}
 use Rattle.vmsa.specs.declared.Regime.{Regime}
 use Rattle.vmsa.specs.declared.Access.{Access}
@@ -47,7 +47,7 @@ module _ {S : Type 0} (see : S → Progress) (F : Functions S) (L : Offering see
       by s a h o t n f (ended e) q = clash (let z : none ≡ some a = sym (ap named q) ∙ h in cc)
 
   -- a walk that goes on ends in no refusal
-  answers : {s u : S} {offers : List Offer} (w : Wanting) → see s ≡ wanting w → start_check w.regime w.access ≡ Accepted → Fed see F s offers u → (e : Ended) → see u ≡ ended e → (k : ℕ) → e.result ≡ refusedWith k → ⊥
+  answers : {s u : S} {offers : List Offer} (w : Wanting) → see s ≡ wanting w → start_check w.regime w.access ≡ Accepted → Fed see F s offers u → (e : Ended) → see u ≡ ended e → (k : ℕ) → e.result ≡ refused_with k → ⊥
   answers w q c none_yet e h k x = clash (let z : wanting w ≡ ended e = sym q ∙ h in cc)
   answers {u = u} w q c (more {t = t} {a = a} {n = n} {o = o} {offers = offers} m f rest) e h k x = by (λ w' g d. answers w' g d rest e h k x) (offered w o) (L.goes _ o t n f w q).0 (left_by_lem w o)
     where
@@ -101,14 +101,14 @@ module _ {S : Type 0} (see : S → Progress) (F : Functions S) (L : Offering see
         by Accepted c = first_by (first_table r a.address.0) (q ∙ start_begun r a c)
 
     -- what a start that is not refused gives
-    on_first : start_check r a ≡ Accepted → (f : First) → see s ≡ begun r a f → (e : Ended) → see s ≡ ended e → (k : ℕ) → e.result ≡ refusedWith k → ⊥
+    on_first : start_check r a ≡ Accepted → (f : First) → see s ≡ begun r a f → (e : Ended) → see s ≡ ended e → (k : ℕ) → e.result ≡ refused_with k → ⊥
     on_first c (first.Fault kind) g e h k x =
         let z : ended (conclusion r a 0 (fault kind 0)) ≡ ended e = sym g ∙ h in
         let d : conclusion r a 0 (fault kind 0) ≡ e = cc in
         conclusion_answers r a 0 (fault kind 0) k (ap (λ (v : Ended). v.result) d ∙ x)
     on_first c (first.Table root) g e h k x = clash (let z : begun r a (first.Table root) ≡ ended e = sym g ∙ h in cc)
 
-    refused_by : (k : ℕ) (e : Ended) → see s ≡ ended e → e.result ≡ refusedWith k → FirstNumber (start_rows r a) k
+    refused_by : (k : ℕ) (e : Ended) → see s ≡ ended e → e.result ≡ refused_with k → FirstNumber (start_rows r a) k
     unfolding start_check
     refused_by k e h x = by (start_check r a) refl
       where
@@ -116,15 +116,15 @@ module _ {S : Type 0} (see : S → Progress) (F : Functions S) (L : Offering see
         by (Refused y) c =
             let z : ended (declined y) ≡ ended e = sym (q ∙ start_refused r a y c) ∙ h in
             let d : declined y ≡ e = cc in
-            let n : refusedWith (number_of y) ≡ refusedWith k = ap (λ (v : Ended). v.result) d ∙ x in
+            let n : refused_with (number_of y) ≡ refused_with k = ap (λ (v : Ended). v.result) d ∙ x in
             (y, refuses_first (start_rows r a) y c, (cc))
         by Accepted c = absurd (on_first c (first_table r a.address.0) (q ∙ start_begun r a c) e h k x)
 
-    refused_at : (k : ℕ) → FirstNumber (start_rows r a) k → (e : Ended) × (see s ≡ ended e) × (e.result ≡ refusedWith k)
+    refused_at : (k : ℕ) → FirstNumber (start_rows r a) k → (e : Ended) × (see s ≡ ended e) × (e.result ≡ refused_with k)
     unfolding start_check
-    refused_at k y = (declined y.0, q ∙ start_refused r a y.0 (first_refuses y.1), ap refusedWith y.2)
+    refused_at k y = (declined y.0, q ∙ start_refused r a y.0 (first_refuses y.1), ap refused_with y.2)
 
-    fed_answers : (x : Offer) (offers : List Offer) (t : S) → Fed see F s (x ∷ offers) t → (e : Ended) → see t ≡ ended e → (k : ℕ) → e.result ≡ refusedWith k → ⊥
+    fed_answers : (x : Offer) (offers : List Offer) (t : S) → Fed see F s (x ∷ offers) t → (e : Ended) → see t ≡ ended e → (k : ℕ) → e.result ≡ refused_with k → ⊥
     fed_answers x offers t f e h k z = by (start_check r a) refl
       where
         -- a walk that has ended at its start is offered nothing

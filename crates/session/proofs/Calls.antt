@@ -27,7 +27,7 @@ use Rattle.refusals.specs.Tests.{store_address_bad}
 use Rattle.checks.specs.Order.{memory_rows, setting_rows, store_rows, regime_check, session_store_check}
 use Rattle.checks.proofs.Accept.{clear, pooled}
 use Rattle.walk.proofs.Parts.{length_part}
-use Rattle.harvest.specs.Harvest.{Harvested, harvested, harvest as harvestOver}
+use Rattle.harvest.specs.Harvest.{Harvested, harvested, harvest as harvest_over}
 use Rattle.tlb.specs.declared.Entry.{Entry as EntryStruct}
 use Rattle.tlb.specs.Replies.{Reply, Told, told, reply_to, refused}
 use Rattle.tlb.specs.Walker.{no_regime, Entry, empty, entry_of, Walked, put_word, access_in}
@@ -130,7 +130,7 @@ module _ (regime : RegimeWords) (set first count : ℕ) (m map : List ℕ) where
   pub harvest_unset : flag set ≡ false → harvested (Refused NoRegime) m map ≡ harvest_in ours (regime_in regime set) first count m map
   harvest_unset f = ap harvesting (sym f)
 
-  pub harvest_set : flag set ≡ true → (r : Regime) → r ≡ regime_of regime → harvestOver r first count m map ≡ harvest_in ours (regime_in regime set) first count m map
+  pub harvest_set : flag set ≡ true → (r : Regime) → r ≡ regime_of regime → harvest_over r first count m map ≡ harvest_in ours (regime_in regime set) first count m map
   harvest_set f r q = ap (λ (y : Regime). harvest_in ours (some y) first count m map) q ∙ ap harvesting (sym f)
 
 -- by what the harvest handed back, and by which case of it that was

@@ -5,7 +5,7 @@ ghost use Rattle.std.specs.Prelude.{◌≡◌};
 ghost use Rattle.vmsa.specs.Answers.{number_of, view};
 ghost use Rattle.vmsa.specs.declared.Refusal.TheVariants.{WalkEnded};
 ghost use Rattle.lookup.specs.declared.Word.TheVariants.{Value, Unreachable};
-ghost use Rattle.stepwise.specs.Stepwise.{wanting as wantingWalk, ended as endedWalk, seen_end, seen};
+ghost use Rattle.stepwise.specs.Stepwise.{wanting as wanting_walk, ended as ended_walk, seen_end, seen};
 ghost use Rattle.step_words.specs.Words.{wanting_of, end_numbers, progress_words, start_words, offer_gives, offer_words};
 
 use stepwise::{Conclusion, Due, Stepwise, Update, Wanting};
@@ -42,7 +42,7 @@ pub struct OfferedWords {
 }
 
 fn wanting_words(regime: RegimeWords, access: AccessWords, w: Wanting) -> StepwiseWords
-    ensures { result ≡ progress_words regime access (wantingWalk w) }
+    ensures { result ≡ progress_words regime access (wanting_walk w) }
 {
     StepwiseWords {
         regime: regime,
@@ -85,7 +85,7 @@ fn end_words(
 }
 
 fn ended_words(regime: RegimeWords, access: AccessWords, c: Conclusion) -> StepwiseWords
-    ensures { result ≡ progress_words regime access (endedWalk (seen_end c)) }
+    ensures { result ≡ progress_words regime access (ended_walk (seen_end c)) }
 {
     let answer = c.answer;
     let due = c.due;

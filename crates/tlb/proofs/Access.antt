@@ -9,7 +9,7 @@ use Rattle.descriptor.specs.Bits.{pick}
 use Rattle.descriptor.proofs.Tests.{clash}
 use Rattle.vmsa.specs.Words.{flag, regime_of}
 use Rattle.vmsa.specs.Fields.{sum_count}
-use Rattle.vmsa.specs.Answers.{Result, success, fault, refused as refusedWith, view, cacheable_in, code_of, number_of, dirtied_in}
+use Rattle.vmsa.specs.Answers.{Result, success, fault, refused as refused_with, view, cacheable_in, code_of, number_of, dirtied_in}
 use Rattle.vmsa.specs.declared.Regime.{Regime}
 use Rattle.vmsa.specs.declared.RegimeWords.{RegimeWords}
 use Rattle.vmsa.specs.declared.Access.{Access}
@@ -144,19 +144,19 @@ counted_with (success s) n =
       reads = n;
     })
 counted_with (fault f) n = fault (record { code = f.code; level = f.level; cacheable = f.cacheable; reads = n })
-counted_with (refusedWith k) n = refusedWith k
+counted_with (refused_with k) n = refused_with k
 
 counted : Reply → Result
-counted done = refusedWith 0
-counted (refused n) = refusedWith n
+counted done = refused_with 0
+counted (refused n) = refused_with n
 counted (answered o n) = counted_with o n
-counted (harvested map) = refusedWith 0
+counted (harvested map) = refused_with 0
 
 recounted : (o : Result) → counted (reply_of o) ≡ o
 unfolding counted counted_with
 recounted (success s) = refl
 recounted (fault f) = refl
-recounted (refusedWith n) = refl
+recounted (refused_with n) = refl
 
 -- ---- every reply of an access is an answer's, and a fault in it stands at one of the four levels; so its values settle the answer
 
@@ -177,10 +177,10 @@ answer_held r m a (some h) = by (dirtied_in (judged r h a))
 
 answer_by : (r : Regime) (m : List ℕ) (a : Access) (h : Option Leaf) (x : Checked) → AnAnswer (access_by ours r m a h x).reply
 answer_by r m a h Accepted = answer_held r m a h
-answer_by r m a h (Refused x) = (refusedWith (number_of x), refl, tt)
+answer_by r m a h (Refused x) = (refused_with (number_of x), refl, tt)
 
 pub answer_in : (g : Option Regime) (m : List ℕ) (a : Access) (e : Entry) → AnAnswer (access_in ours g m a e).reply
-answer_in none m a e = (refusedWith no_regime, refl, tt)
+answer_in none m a e = (refused_with no_regime, refl, tt)
 answer_in (some r) m a e = answer_by r m a (held_in e (ours.page r a)) (and_then (ours.memory_check r (length m)) (ours.access_check r a))
 
 result_of : (o p : Result) → reply_of o ≡ reply_of p → o ≡ p

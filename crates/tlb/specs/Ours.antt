@@ -3,7 +3,7 @@ use Rattle.std.specs.Prelude.{ℕ, ◌+◌, ◌-◌, ◌*◌, List, length, Bool
 use Rattle.descriptor.specs.Bytes.{bytes_of}
 use Rattle.vmsa.specs.Granules.{page_bits_of}
 use Rattle.geometry.specs.Geometry.{page_size, page_of}
-use Rattle.vmsa.specs.Answers.{Result, success, fault as faultWith, refused, code_of, dirtied_in}
+use Rattle.vmsa.specs.Answers.{Result, success, fault as fault_with, refused, code_of, dirtied_in}
 use Rattle.descriptor.specs.Bits.{pick}
 use Rattle.vmsa.specs.declared.Regime.{Regime}
 use Rattle.vmsa.specs.declared.Access.{Access}
@@ -45,7 +45,7 @@ judged r l a = (decision r a l 0).result
 -- the updates that an answer tells of
 abbrev pub accessed_in : Result → Bool
 accessed_in (success s) = s.accessed
-accessed_in (faultWith f) = false
+accessed_in (fault_with f) = false
 accessed_in (refused n) = false
 
 unfoldable pub stamped : Result → ℕ → ℕ

@@ -1,6 +1,6 @@
 -- What a call of a session (RULES 10) hands back, with the count of reads apart.
 use Rattle.std.specs.Prelude.{ℕ, List, Bool, true, false, ◌||◌}
-use Rattle.vmsa.specs.Answers.{Result, success, fault, refused as refusedWith, number_of, dirtied_in}
+use Rattle.vmsa.specs.Answers.{Result, success, fault, refused as refused_with, number_of, dirtied_in}
 use Rattle.checks.specs.declared.Checked.{Checked}
 use Rattle.checks.specs.declared.Checked.TheVariants.{Accepted, Refused}
 
@@ -34,7 +34,7 @@ reply_of (success s) =
       reads = 0;
     })) s.reads
 reply_of (fault f) = answered (fault (record { code = f.code; level = f.level; cacheable = f.cacheable; reads = 0 })) f.reads
-reply_of (refusedWith n) = refused n
+reply_of (refused_with n) = refused n
 
 -- the reply of a call that answers nothing but that it was accepted
 abbrev pub reply_to : Checked → Reply
@@ -57,7 +57,7 @@ uncounted (harvested map) = harvested map
 abbrev pub updates : Result → Bool
 updates (success s) = s.accessed || s.dirtied
 updates (fault f) = false
-updates (refusedWith n) = false
+updates (refused_with n) = false
 
 -- a reply that makes a dirty update
 abbrev pub dirties : Reply → Bool

@@ -8,8 +8,8 @@ ghost use Rattle.vmsa.specs.Words.{regime_of};
 ghost use Rattle.decision.specs.Decision.{failing};
 ghost use Rattle.walk.specs.Walk.{kept_leaf};
 ghost use Rattle.tlb.specs.Replies.{reply_of};
-ghost use Rattle.tlb.specs.Walker.{entry_count, held_in, walked as walkedOf, access_held};
-ghost use Rattle.tlb.specs.Ours.{usable as usableOf, ours};
+ghost use Rattle.tlb.specs.Walker.{entry_count, held_in, walked as walked_of, access_held};
+ghost use Rattle.tlb.specs.Ours.{usable as usable_of, ours};
 ghost use Rattle.tlb.specs.Entries.{no_entry, entry_view, page_for, entry_for, held_leaf, walked_view, kept_entry, filling, filled_by, accessed_entry, entry_answer, asked_reply, leaf_in, entry_kind};
 
 use checks::Checked;
@@ -163,7 +163,7 @@ impl Entry {
 
 // Whether rows 3 and 4 let a regime through.
 fn usable(r: Regime) -> bool
-    ensures { result ≡ usableOf r }
+    ensures { result ≡ usable_of r }
 {
     !(refusals::sizes_bad(r) | refusals::roots_bad(r))
 }
@@ -171,7 +171,7 @@ fn usable(r: Regime) -> bool
 // The walk of an access that no entry answers, in the pool's part of the memory.
 pub fn miss(memory: &mut [u8], r: Regime, a: Access) -> walk::Walked
     requires { (r.pool.start + r.pool.length ≤ length memory.old) × (0 < a.size) }
-    ensures { walked_view result memory.new ≡ walkedOf ours r memory.old a }
+    ensures { walked_view result memory.new ≡ walked_of ours r memory.old a }
 {
     if usable(r) {
         let start = r.pool.start;
@@ -208,7 +208,7 @@ pub fn entry_of(regime: RegimeWords, a: Access) -> usize
 // An access that walks: its answer, and its page's entry with the walk's leaf kept.
 pub fn walk_entry(entry: Entry, memory: &mut [u8], r: Regime, a: Access) -> Filled
     requires { (r.pool.start + r.pool.length ≤ length memory.old) × (0 < a.size) }
-    ensures { filling result.entry memory.new (reply_of (view result.answer)) ≡ filled_by entry r a (walkedOf ours r memory.old a) }
+    ensures { filling result.entry memory.new (reply_of (view result.answer)) ≡ filled_by entry r a (walked_of ours r memory.old a) }
 {
     let missed = miss(memory, r, a);
     let kept = missed.kept;

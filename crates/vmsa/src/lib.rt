@@ -3,7 +3,7 @@
 
 ghost use Rattle.std.specs.Prelude.{◌≡◌, ◌<◌};
 ghost use Rattle.vmsa.specs.Kinds.{is_fetch, is_probe, asks_write, writes as writes_of};
-ghost use Rattle.vmsa.specs.Attributes.{attribute as attribute_of, device as deviceOf};
+ghost use Rattle.vmsa.specs.Attributes.{attribute as attribute_of, device as device_of};
 ghost use Rattle.vmsa.specs.Answers.{number_of, code_of, view, cacheable_in, dirtied_in};
 ghost use Rattle.vmsa.specs.Granules.{page_bits, Paged};
 ghost use Rattle.vmsa.specs.Words.{flag_byte, granule_number, granule_numbered, regime_of, regime_words};
@@ -580,7 +580,7 @@ pub fn attribute(attributes: u64, i: u8) -> u8
 
 // Whether an attribute byte says Device memory.
 pub fn device(b: u8) -> bool
-    ensures { result ≡ deviceOf b }
+    ensures { result ≡ device_of b }
 {
     (b == 0) | (b == 4) | (b == 8) | (b == 12)
 }

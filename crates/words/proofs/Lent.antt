@@ -36,7 +36,7 @@ use denote.Laws.{Is}
 use denote.Ref.{Bor, MutBor}
 use denote.Shadow.{shadow}
 use denote.Array.{each}
-use denote.Index.{place as element-at}
+use denote.Index.{place as element_at}
 use denote.Plain.{uint_Lawful}
 use denote.Builtin.{u8, u16, u32}
 use denote.Steps.{only}
@@ -208,7 +208,7 @@ module _ (s : Session) (is : IsSession s) where
 -- where it lies, as a part of the session's cell
 module _ (r : Bor Session) (is : IsSession r.now) (k : ℕ) (l : k < entry_count) where
   abbrev pub spot : ℕ
-  spot = element-at 24 (r.ref_ptr.1 + 64) k
+  spot = element_at 24 (r.ref_ptr.1 + 64) k
 
   abbrev us : List Val
   us = evals r.now.entries

@@ -12,7 +12,7 @@ use Rattle.checks.specs.Order.{regime_check}
 use Rattle.walk.specs.Walk.{walk}
 use Rattle.checks.specs.declared.Checked.{Checked}
 use Rattle.harvest.specs.Harvest.{Harvested}
-use Rattle.tlb.specs.Replies.{Reply, done, refused as refusedWith, answered, harvested, Told, told, reply_to}
+use Rattle.tlb.specs.Replies.{Reply, done, refused as refused_with, answered, harvested, Told, told, reply_to}
 use Rattle.tlb.specs.Entries.{Filling, filling}
 use Rattle.session.specs.declared.Session.{Session as SessionStruct}
 use Rattle.session.specs.Model.{Handed, handed}
@@ -107,14 +107,14 @@ walk_words r a m = told (words_of (walk r a m).result) (walk r a m).bytes
 -- the number of a refusal, 0 for what is done
 abbrev pub refusal_byte : Reply → ℕ
 refusal_byte done = 0
-refusal_byte (refusedWith n) = n
+refusal_byte (refused_with n) = n
 refusal_byte (answered o n) = 0
 refusal_byte (harvested map) = 0
 
 -- a session's reply to an access as numbers
 abbrev pub reply_words : Reply → AnswerWords
 reply_words done = words_of (refused 0)
-reply_words (refusedWith n) = words_of (refused n)
+reply_words (refused_with n) = words_of (refused n)
 reply_words (answered o n) = counted_words n (words_of o)
 reply_words (harvested map) = words_of (refused 0)
 

@@ -5,7 +5,7 @@ ghost use Rattle.std.specs.Prelude.{◌≡◌, ◌+◌, ◌≤◌, ◌<◌, leng
 ghost use Rattle.vmsa.specs.Answers.{refused, view};
 ghost use Rattle.vmsa.specs.Words.{regime_of};
 ghost use Rattle.tlb.specs.Replies.{told, reply_to};
-ghost use Rattle.tlb.specs.Walker.{entry_count, walked as walkedOf};
+ghost use Rattle.tlb.specs.Walker.{entry_count, walked as walked_of};
 ghost use Rattle.tlb.specs.Ours.{ours};
 ghost use Rattle.tlb.specs.Entries.{entry_view, regime_in, entry_for, filling, filled_by, entry_answer, entry_reply};
 ghost use Rattle.harvest.specs.Harvest.{harvested, harvest as harvest_of};
@@ -287,7 +287,7 @@ pub fn walk_entry(
     access: AccessWords,
 ) -> FilledWords
     requires { ((regime_of regime).pool.start + (regime_of regime).pool.length ≤ length memory.old) × (0 < (access_of access).size) }
-    ensures { filling result.entry memory.new result.answer ≡ entry_replied (filled_by entry (regime_of regime) (access_of access) (walkedOf ours (regime_of regime) memory.old (access_of access))) }
+    ensures { filling result.entry memory.new result.answer ≡ entry_replied (filled_by entry (regime_of regime) (access_of access) (walked_of ours (regime_of regime) memory.old (access_of access))) }
 {
     let a = access_of(access);
     let r = regime.regime();

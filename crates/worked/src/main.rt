@@ -4,7 +4,7 @@
 ghost use Rattle.std.specs.Prelude.{◌≡◌, ◌+◌, ◌≤◌};
 ghost use Rattle.vmsa.specs.Settings.{with_pool};
 ghost use Rattle.walk.specs.Walk.{outcome, walk as walk_of};
-ghost use Rattle.cases.specs.Cases.{base as base_of, worked_pool, eight as eightOf, access as access_of, usual as usualOf, puts, tables_with};
+ghost use Rattle.cases.specs.Cases.{base as base_of, worked_pool, eight as eight_of, access as access_of, usual as usual_of, puts, tables_with};
 ghost use Rattle.worked.specs.Room.{Roomy};
 
 use checks::Checked;
@@ -47,7 +47,7 @@ const MAP: usize = 2;
 
 // Eight attribute bytes, all alike.
 fn eight(attribute: u8) -> u64
-    ensures { result ≡ eightOf attribute }
+    ensures { result ≡ eight_of attribute }
 {
     0x0101010101010101 * (attribute as u64)
 }
@@ -91,7 +91,7 @@ fn access(address: u64, size: u64, kind: AccessKind) -> Access
 }
 
 fn usual(kind: AccessKind) -> Access
-    ensures { result ≡ usualOf kind }
+    ensures { result ≡ usual_of kind }
 {
     access(0x403ABC, 4, kind)
 }

@@ -54,12 +54,12 @@ use Rattle.tlb.specs.contracts.Entry as E
 use Rattle.tlb.proofs.Entry.TheLaws as E'
 use Rattle.tlb.proofs.Entry.empty.Symbol as empty_def
 use Rattle.tlb.proofs.Entry.empty.Symbol.{name as #empty}
-use Rattle.tlb.proofs.Entry.empty.Met as empty-thm
+use Rattle.tlb.proofs.Entry.empty.Met as empty_thm
 use Rattle.session.specs.contracts.Session as S
 use Rattle.words.specs.contracts.session_harvest_words as harvest
-use Rattle.words.proofs.session_harvest_words.Symbol as harvest-def
+use Rattle.words.proofs.session_harvest_words.Symbol as harvest_def
 use Rattle.words.proofs.session_harvest_words.Symbol.{name as #harvest}
-use Rattle.words.proofs.session_harvest_words.Met as harvest-thm
+use Rattle.words.proofs.session_harvest_words.Met as harvest_thm
 use Rattle.borrows.proofs.Walks.{apart2_1, meets, forks}
 use Rattle.borrows.proofs.Locals.{allocated}
 use Rattle.borrows.proofs.Numbered.{param, local, part, points, behind, gets, takes, sets_behind, fetch, leaves, leaves_within}
@@ -203,5 +203,5 @@ vmsa-session-harvest-spec 𝓤 𝓛 𝓜 𝓡 =
     let at_mem = 𝓜.mem in
     let run = 𝓡.run in
     meets 𝓛 𝓜 𝓡 this.ended stayed (goes 𝓛 at_mem run) (this.clauses 𝓛 at_mem run) code.env #this code.function (code.unfolded 𝓤 𝓛.H 𝓜 𝓡) (λ fm. walks 𝓛 at_mem run _ _ fm
-    (cited 𝓤 𝓛.H (HarvestC 𝓛 at_mem run) 𝓜 𝓡 code.env #harvest harvest-def.routine code.calls-words::session-harvest-words (harvest-thm.met 𝓤 𝓛 𝓜 𝓡))
-    (cited 𝓤 𝓛.H (EmptyC 𝓛 at_mem run) 𝓜 𝓡 code.env #empty empty_def.routine code.calls-tlb::Entry::empty (empty-thm.met 𝓤 𝓛 𝓜 𝓡)))
+    (cited 𝓤 𝓛.H (HarvestC 𝓛 at_mem run) 𝓜 𝓡 code.env #harvest harvest_def.routine code.calls-words::session-harvest-words (harvest_thm.met 𝓤 𝓛 𝓜 𝓡))
+    (cited 𝓤 𝓛.H (EmptyC 𝓛 at_mem run) 𝓜 𝓡 code.env #empty empty_def.routine code.calls-tlb::Entry::empty (empty_thm.met 𝓤 𝓛 𝓜 𝓡)))

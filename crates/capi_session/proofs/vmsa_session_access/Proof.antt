@@ -39,7 +39,7 @@ use denote.Triple.Table.{cited}
 use denote.Triple.Walked.{says, Stays, stay_ref, gave_slice, stay_dropped, walk_of, AllGo, Goes-ref, Goes-gave_slice, Goes-dropped, Walks, ends_at, walked}
 use denote.Exit.{yes}
 use Rattle.tlb.specs.Walker.{entry_count}
-use Rattle.tlb.specs.Walker.{Walked as WalkedOf, walked as walkedOf, access_in}
+use Rattle.tlb.specs.Walker.{Walked as WalkedOf, walked as walked_of, access_in}
 use Rattle.tlb.specs.Ours.{ours}
 use Rattle.tlb.specs.Entries.{no_entry, entry_view, regime_in, filling, filled_by, accessed_entry, entry_reply}
 use Rattle.tlb.proofs.Access.{Walks as Walking, walk_is_access}
@@ -67,17 +67,17 @@ use Rattle.words.proofs.Hit.TheLaws as J'
 use Rattle.words.specs.contracts.FilledWords as X
 use Rattle.words.proofs.FilledWords.TheLaws as X'
 use Rattle.words.specs.contracts.entry_of as number
-use Rattle.words.proofs.entry_of.Symbol as number-def
+use Rattle.words.proofs.entry_of.Symbol as number_def
 use Rattle.words.proofs.entry_of.Symbol.{name as #number}
-use Rattle.words.proofs.entry_of.Met as number-thm
+use Rattle.words.proofs.entry_of.Met as number_thm
 use Rattle.words.specs.contracts.hit_entry as hit
-use Rattle.words.proofs.hit_entry.Symbol as hit-def
+use Rattle.words.proofs.hit_entry.Symbol as hit_def
 use Rattle.words.proofs.hit_entry.Symbol.{name as #hit}
-use Rattle.words.proofs.hit_entry.Met as hit-thm
+use Rattle.words.proofs.hit_entry.Met as hit_thm
 use Rattle.words.specs.contracts.walk_entry as walk
-use Rattle.words.proofs.walk_entry.Symbol as walk-def
+use Rattle.words.proofs.walk_entry.Symbol as walk_def
 use Rattle.words.proofs.walk_entry.Symbol.{name as #walk}
-use Rattle.words.proofs.walk_entry.Met as walk-thm
+use Rattle.words.proofs.walk_entry.Met as walk_thm
 use Rattle.borrows.proofs.Walks.{apart4, together4, meets, forks, given_up}
 use Rattle.borrows.proofs.Locals.{allocated}
 use Rattle.borrows.proofs.Numbered.{param, local, part, points, behind, behind_is, gets, gets_anew, takes, fetch, leaves, leaves_within}
@@ -111,7 +111,7 @@ abbrev Hits : Session → List ℕ → AccessWords → Entry → Hit → Type 0
 Hits h m g e x = x ≡ hit_of (entry_reply (length m) (access_of g) (entry_view e) (regime_in h.regime h.set))
 
 abbrev Filled : Session → List ℕ → AccessWords → Entry → FilledWords → List ℕ → Type 0
-Filled h m g e y l = filling y.entry l y.answer ≡ entry_replied (filled_by e (regime_of h.regime) (access_of g) (walkedOf ours (regime_of h.regime) m (access_of g)))
+Filled h m g e y l = filling y.entry l y.answer ≡ entry_replied (filled_by e (regime_of h.regime) (access_of g) (walked_of ours (regime_of h.regime) m (access_of g)))
 
 -- where nothing is said at once, what the walk requires, and that the walk is the access
 abbrev Walked : Session → List ℕ → AccessWords → Entry → Type 0
@@ -291,6 +291,6 @@ vmsa-session-access-spec 𝓤 𝓛 𝓜 𝓡 =
     let at_mem = 𝓜.mem in
     let run = 𝓡.run in
     meets 𝓛 𝓜 𝓡 this.ended stayed (goes 𝓛 at_mem run) (this.clauses 𝓛 at_mem run) code.env #this code.function (code.unfolded 𝓤 𝓛.H 𝓜 𝓡) (λ fm. walks 𝓛 at_mem run _ _ fm
-    (cited 𝓤 𝓛.H (NumberC 𝓛 at_mem run) 𝓜 𝓡 code.env #number number-def.routine code.calls-words::entry-of (number-thm.met 𝓤 𝓛 𝓜 𝓡))
-    (cited 𝓤 𝓛.H (HitC 𝓛 at_mem run) 𝓜 𝓡 code.env #hit hit-def.routine code.calls-words::hit-entry (hit-thm.met 𝓤 𝓛 𝓜 𝓡))
-    (cited 𝓤 𝓛.H (WalkC 𝓛 at_mem run) 𝓜 𝓡 code.env #walk walk-def.routine code.calls-words::walk-entry (walk-thm.met 𝓤 𝓛 𝓜 𝓡)))
+    (cited 𝓤 𝓛.H (NumberC 𝓛 at_mem run) 𝓜 𝓡 code.env #number number_def.routine code.calls-words::entry-of (number_thm.met 𝓤 𝓛 𝓜 𝓡))
+    (cited 𝓤 𝓛.H (HitC 𝓛 at_mem run) 𝓜 𝓡 code.env #hit hit_def.routine code.calls-words::hit-entry (hit_thm.met 𝓤 𝓛 𝓜 𝓡))
+    (cited 𝓤 𝓛.H (WalkC 𝓛 at_mem run) 𝓜 𝓡 code.env #walk walk_def.routine code.calls-words::walk-entry (walk_thm.met 𝓤 𝓛 𝓜 𝓡)))

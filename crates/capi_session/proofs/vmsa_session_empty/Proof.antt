@@ -30,9 +30,9 @@ use Rattle.session.specs.declared.Session.{Session}
 use Rattle.session.specs.contracts.Session as S
 use Rattle.session.proofs.Session.TheLaws as S'
 use Rattle.session.specs.contracts.Session.empty as callee
-use Rattle.session.proofs.Session.empty.Symbol as callee-def
+use Rattle.session.proofs.Session.empty.Symbol as callee_def
 use Rattle.session.proofs.Session.empty.Symbol.{name as #callee}
-use Rattle.session.proofs.Session.empty.Met as callee-thm
+use Rattle.session.proofs.Session.empty.Met as callee_thm
 use Rattle.borrows.proofs.Walks.{apart1, together1, proved}
 use Rattle.borrows.proofs.Locals.{allocated}
 use Rattle.borrows.proofs.Numbered.{param, local, gets, takes, fetch, leaves}
@@ -91,4 +91,4 @@ pub vmsa-session-empty-spec : {M : Type 1} → stated.statement M
 unfolding code.routine
 vmsa-session-empty-spec 𝓤 𝓛 𝓜 𝓡 =
     proved 𝓛 𝓜 𝓡 this.ended stayed (goes 𝓛 𝓜.mem 𝓡.run) (this.clauses 𝓛 𝓜.mem 𝓡.run) code.env #this code.function (code.unfolded 𝓤 𝓛.H 𝓜 𝓡)
-    (Callee 𝓛 𝓜.mem 𝓡.run) #callee callee-def.routine code.calls-session::Session::empty (callee-thm.met 𝓤 𝓛 𝓜 𝓡) (walks 𝓛 𝓜.mem 𝓡.run)
+    (Callee 𝓛 𝓜.mem 𝓡.run) #callee callee_def.routine code.calls-session::Session::empty (callee_thm.met 𝓤 𝓛 𝓜 𝓡) (walks 𝓛 𝓜.mem 𝓡.run)

@@ -34,7 +34,7 @@ use Rattle.tlb.proofs.Entry.TheLaws as E'
 use Rattle.session.specs.contracts.Session as S
 use Rattle.tlb.proofs.Entry.empty.Symbol as empty_def
 use Rattle.tlb.proofs.Entry.empty.Symbol.{name as #empty}
-use Rattle.tlb.proofs.Entry.empty.Met as empty-thm
+use Rattle.tlb.proofs.Entry.empty.Met as empty_thm
 use Rattle.borrows.proofs.Walks.{apart1, together1, proved}
 use Rattle.borrows.proofs.Locals.{allocated}
 use Rattle.borrows.proofs.Numbered.{param, local, gets, takes, sets_behind, fetch, leaves}
@@ -90,4 +90,4 @@ pub vmsa-session-invalidate-all-spec : {M : Type 1} → stated.statement M
 unfolding code.routine
 vmsa-session-invalidate-all-spec 𝓤 𝓛 𝓜 𝓡 =
     proved 𝓛 𝓜 𝓡 this.ended stayed (goes 𝓛 𝓜.mem 𝓡.run) (this.clauses 𝓛 𝓜.mem 𝓡.run) code.env #this code.function (code.unfolded 𝓤 𝓛.H 𝓜 𝓡)
-    (EmptyC 𝓛 𝓜.mem 𝓡.run) #empty empty_def.routine code.calls-tlb::Entry::empty (empty-thm.met 𝓤 𝓛 𝓜 𝓡) (walks 𝓛 𝓜.mem 𝓡.run)
+    (EmptyC 𝓛 𝓜.mem 𝓡.run) #empty empty_def.routine code.calls-tlb::Entry::empty (empty_thm.met 𝓤 𝓛 𝓜 𝓡) (walks 𝓛 𝓜.mem 𝓡.run)

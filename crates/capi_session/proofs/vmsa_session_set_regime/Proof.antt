@@ -53,14 +53,14 @@ use Rattle.tlb.proofs.Entry.TheLaws as E'
 use Rattle.session.specs.contracts.Session as S
 use Rattle.tlb.proofs.Entry.empty.Symbol as empty_def
 use Rattle.tlb.proofs.Entry.empty.Symbol.{name as #empty}
-use Rattle.tlb.proofs.Entry.empty.Met as empty-thm
+use Rattle.tlb.proofs.Entry.empty.Met as empty_thm
 use Rattle.words.specs.contracts.SetWords as X
 use Rattle.words.proofs.SetWords.TheLaws as X'
 use Rattle.words.proofs.Reply.{set_numbers, of_refused, of_accepted}
 use Rattle.words.specs.contracts.set_words as check
-use Rattle.words.proofs.set_words.Symbol as check-def
+use Rattle.words.proofs.set_words.Symbol as check_def
 use Rattle.words.proofs.set_words.Symbol.{name as #check}
-use Rattle.words.proofs.set_words.Met as check-thm
+use Rattle.words.proofs.set_words.Met as check_thm
 use Rattle.borrows.proofs.Walks.{apart3, together3, meets, forks}
 use Rattle.borrows.proofs.Locals.{allocated}
 use Rattle.borrows.proofs.Numbered.{param, local, part, gets, takes, sets_behind, fetch, leaves, leaves_within}
@@ -201,5 +201,5 @@ vmsa-session-set-regime-spec 𝓤 𝓛 𝓜 𝓡 =
     let at_mem = 𝓜.mem in
     let run = 𝓡.run in
     meets 𝓛 𝓜 𝓡 this.ended stayed (goes 𝓛 at_mem run) (this.clauses 𝓛 at_mem run) code.env #this code.function (code.unfolded 𝓤 𝓛.H 𝓜 𝓡) (λ fm. walks 𝓛 at_mem run _ _ fm
-    (cited 𝓤 𝓛.H (CheckC 𝓛 at_mem run) 𝓜 𝓡 code.env #check check-def.routine code.calls-words::set-words (check-thm.met 𝓤 𝓛 𝓜 𝓡))
-    (cited 𝓤 𝓛.H (EmptyC 𝓛 at_mem run) 𝓜 𝓡 code.env #empty empty_def.routine code.calls-tlb::Entry::empty (empty-thm.met 𝓤 𝓛 𝓜 𝓡)))
+    (cited 𝓤 𝓛.H (CheckC 𝓛 at_mem run) 𝓜 𝓡 code.env #check check_def.routine code.calls-words::set-words (check_thm.met 𝓤 𝓛 𝓜 𝓡))
+    (cited 𝓤 𝓛.H (EmptyC 𝓛 at_mem run) 𝓜 𝓡 code.env #empty empty_def.routine code.calls-tlb::Entry::empty (empty_thm.met 𝓤 𝓛 𝓜 𝓡)))

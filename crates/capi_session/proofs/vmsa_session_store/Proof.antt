@@ -44,9 +44,9 @@ use Rattle.vmsa.specs.contracts.RegimeWords as R
 use Rattle.vmsa.proofs.RegimeWords.TheLaws as R'
 use Rattle.session.specs.contracts.Session as S
 use Rattle.words.specs.contracts.store_words as callee
-use Rattle.words.proofs.store_words.Symbol as callee-def
+use Rattle.words.proofs.store_words.Symbol as callee_def
 use Rattle.words.proofs.store_words.Symbol.{name as #callee}
-use Rattle.words.proofs.store_words.Met as callee-thm
+use Rattle.words.proofs.store_words.Met as callee_thm
 use Rattle.borrows.proofs.Walks.{apart2, proved}
 use Rattle.borrows.proofs.Locals.{allocated}
 use Rattle.borrows.proofs.Numbered.{param, local, part, points, behind, gets, takes, fetch, leaves}
@@ -141,4 +141,4 @@ pub vmsa-session-store-spec : {M : Type 1} → stated.statement M
 unfolding code.routine
 vmsa-session-store-spec 𝓤 𝓛 𝓜 𝓡 =
     proved 𝓛 𝓜 𝓡 this.ended stayed (goes 𝓛 𝓜.mem 𝓡.run) (this.clauses 𝓛 𝓜.mem 𝓡.run) code.env #this code.function (code.unfolded 𝓤 𝓛.H 𝓜 𝓡)
-    (Callee 𝓛 𝓜.mem 𝓡.run) #callee callee-def.routine code.calls-words::store-words (callee-thm.met 𝓤 𝓛 𝓜 𝓡) (walks 𝓛 𝓜.mem 𝓡.run)
+    (Callee 𝓛 𝓜.mem 𝓡.run) #callee callee_def.routine code.calls-words::store-words (callee_thm.met 𝓤 𝓛 𝓜 𝓡) (walks 𝓛 𝓜.mem 𝓡.run)

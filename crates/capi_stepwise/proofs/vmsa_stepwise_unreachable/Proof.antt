@@ -37,9 +37,9 @@ use Rattle.step_words.proofs.StepwiseWords.TheLaws as S'
 use Rattle.step_words.specs.contracts.OfferedWords as X
 use Rattle.step_words.proofs.OfferedWords.TheLaws as X'
 use Rattle.step_words.specs.contracts.unreachable_words as callee
-use Rattle.step_words.proofs.unreachable_words.Symbol as callee-def
+use Rattle.step_words.proofs.unreachable_words.Symbol as callee_def
 use Rattle.step_words.proofs.unreachable_words.Symbol.{name as #callee}
-use Rattle.step_words.proofs.unreachable_words.Met as callee-thm
+use Rattle.step_words.proofs.unreachable_words.Met as callee_thm
 use Rattle.borrows.proofs.Walks.{apart1, together1, proved}
 use Rattle.borrows.proofs.Locals.{allocated}
 use Rattle.borrows.proofs.Numbered.{param, local, part, gets, takes, fetch, leaves}
@@ -122,4 +122,4 @@ pub vmsa-stepwise-unreachable-spec : {M : Type 1} → stated.statement M
 unfolding code.routine
 vmsa-stepwise-unreachable-spec 𝓤 𝓛 𝓜 𝓡 =
     proved 𝓛 𝓜 𝓡 this.ended stayed (goes 𝓛 𝓜.mem 𝓡.run) (this.clauses 𝓛 𝓜.mem 𝓡.run) code.env #this code.function (code.unfolded 𝓤 𝓛.H 𝓜 𝓡)
-    (Callee 𝓛 𝓜.mem 𝓡.run) #callee callee-def.routine code.calls-step-words::unreachable-words (callee-thm.met 𝓤 𝓛 𝓜 𝓡) (walks 𝓛 𝓜.mem 𝓡.run)
+    (Callee 𝓛 𝓜.mem 𝓡.run) #callee callee_def.routine code.calls-step-words::unreachable-words (callee_thm.met 𝓤 𝓛 𝓜 𝓡) (walks 𝓛 𝓜.mem 𝓡.run)

@@ -42,9 +42,9 @@ use Rattle.words.proofs.AccessWords.TheLaws as G'
 use Rattle.words.specs.contracts.AnswerWords as N
 use Rattle.words.proofs.AnswerWords.TheLaws as N'
 use Rattle.words.specs.contracts.walk_words as callee
-use Rattle.words.proofs.walk_words.Symbol as callee-def
+use Rattle.words.proofs.walk_words.Symbol as callee_def
 use Rattle.words.proofs.walk_words.Symbol.{name as #callee}
-use Rattle.words.proofs.walk_words.Met as callee-thm
+use Rattle.words.proofs.walk_words.Met as callee_thm
 use Rattle.borrows.proofs.Walks.{apart4, together4, proved}
 use Rattle.borrows.proofs.Locals.{allocated}
 use Rattle.borrows.proofs.Numbered.{param, local, part, points, gets, takes, fetch, leaves}
@@ -136,4 +136,4 @@ pub vmsa-walk-spec : {M : Type 1} → stated.statement M
 unfolding code.routine
 vmsa-walk-spec 𝓤 𝓛 𝓜 𝓡 =
     proved 𝓛 𝓜 𝓡 this.ended stayed (goes 𝓛 𝓜.mem 𝓡.run) (this.clauses 𝓛 𝓜.mem 𝓡.run) code.env #this code.function (code.unfolded 𝓤 𝓛.H 𝓜 𝓡)
-    (Callee 𝓛 𝓜.mem 𝓡.run) #callee callee-def.routine code.calls-words::walk_words_lem (callee-thm.met 𝓤 𝓛 𝓜 𝓡) (walks 𝓛 𝓜.mem 𝓡.run)
+    (Callee 𝓛 𝓜.mem 𝓡.run) #callee callee_def.routine code.calls-words::walk_words_lem (callee_thm.met 𝓤 𝓛 𝓜 𝓡) (walks 𝓛 𝓜.mem 𝓡.run)

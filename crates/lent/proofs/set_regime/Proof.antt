@@ -43,9 +43,9 @@ use Rattle.session.specs.contracts.Session as S
 use Rattle.session.specs.contracts.Changed as X
 use Rattle.session.proofs.Changed.TheLaws as X'
 use Rattle.session.specs.contracts.Session.set_regime as callee
-use Rattle.session.proofs.Session.set_regime.Symbol as callee-def
+use Rattle.session.proofs.Session.set_regime.Symbol as callee_def
 use Rattle.session.proofs.Session.set_regime.Symbol.{name as #callee}
-use Rattle.session.proofs.Session.set_regime.Met as callee-thm
+use Rattle.session.proofs.Session.set_regime.Met as callee_thm
 use Rattle.borrows.proofs.Walks.{hands, proved}
 use Rattle.borrows.proofs.Locals.{allocated, released}
 use Rattle.borrows.proofs.Calls.{copied, field_of, sets, gave}
@@ -140,4 +140,4 @@ pub set-regime-spec : {M : Type 1} → stated.statement M
 unfolding code.routine
 set-regime-spec 𝓤 𝓛 𝓜 𝓡 =
     proved 𝓛 𝓜 𝓡 this.ended stayed (goes 𝓛 𝓜.mem 𝓡.run) (this.clauses 𝓛 𝓜.mem 𝓡.run) code.env #this code.function (code.unfolded 𝓤 𝓛.H 𝓜 𝓡)
-    (Callee 𝓛 𝓜.mem 𝓡.run) #callee callee-def.routine code.calls-session::Session::set_regime_lem (callee-thm.met 𝓤 𝓛 𝓜 𝓡) (walks 𝓛 𝓜.mem 𝓡.run)
+    (Callee 𝓛 𝓜.mem 𝓡.run) #callee callee_def.routine code.calls-session::Session::set_regime_lem (callee_thm.met 𝓤 𝓛 𝓜 𝓡) (walks 𝓛 𝓜.mem 𝓡.run)
