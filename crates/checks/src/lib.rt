@@ -12,7 +12,7 @@ use refusals::{
 use vmsa::{Access, PhysAddr, Refusal, Regime};
 
 // What the checks of a call say.
-#[derive(Drop)]
+#[derive(Clone, Copy)]
 pub enum Checked {
     Accepted,
     Refused(Refusal),

@@ -8,7 +8,7 @@ ghost use Rattle.decision.specs.Decision.{flag_due, dirty_due, updated as update
 use vmsa::{Access, Answer, Fault, FaultKind, Leaf, PhysAddr, Regime, Success};
 
 // How a held leaf answers an access: with a success, with a fault, or not at all, so that the access walks.
-#[derive(Drop)]
+#[derive(Clone, Copy)]
 pub enum HitKind {
     Success,
     Fault(FaultKind),
@@ -16,7 +16,7 @@ pub enum HitKind {
 }
 
 // What a leaf gives an access: the answer, whether the leaf changes, and its value then.
-#[derive(Drop)]
+#[derive(Clone, Copy)]
 pub struct Verdict {
     pub answer: Answer,
     pub update: bool,

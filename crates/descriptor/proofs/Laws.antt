@@ -1,12 +1,12 @@
 -- The laws of `desc` and `put` that callers use, and the steps from them to the code.
 use Prim.Native.Nat.{ℕ, zero, suc, ◌+◌, ◌/◌, ◌%◌, ◌^◌, ◌<◌, ◌≤◌, ◌-◌}
-use mathlib.Core.Path.{◌≡◌, refl, sym, ap, subst, ◌∙◌}
+use mathlib.Core.Path.{◌≡◌, refl, sym, ap, ◌∙◌}
 use mathlib.Core.List.{List, [], ◌∷◌, ◌++◌, append_assoc, reverse, reverse-reverse}
 use native.Mathlib.Nat.{add-suc, add-zero, add_assoc}
 use mathlib.Core.Logic.{◌⊎◌, inl, inr}
 use native.Mathlib.Omega.{arith}
-use lib.ListN.{length, get_or, take, drop, set, length-append, length-take, length-drop, length-reverse, take-append-drop, get_or-append}
-use lib.Seq.{drop-cons, sets, sets-eq, drop-drop, take_at, drop_at, length-take-le, get_or-take, get_or-drop, get_or-append-add, take-append-add, drop-append-add, take-append-le, drop-append-le}
+use lib.ListN.{length, get_or, take, drop, set, length-append, length-drop, length-reverse, take-append-drop, get_or-append}
+use lib.Seq.{drop-cons, sets, sets-eq, take_at, drop_at, length-take-le, get_or-take, get_or-drop, get_or-append-add, take-append-add, drop-append-add, take-append-le, drop-append-le}
 use mathlib.Core.Bool.{Bool, true, false, not}
 use lib.Dec.{eqb, ltb}
 use borrow.Author.Tests.{eqb-true, eqb-false, ltb-true, ltb-false}

@@ -23,7 +23,7 @@ const LEAF: u64 = 6;
 
 // What the levels of one lookup share: the pool's address, the end of the output addresses,
 // the guest address below its range's size, and the page bits of the granule.
-#[derive(Drop)]
+#[derive(Clone, Copy)]
 pub struct Context {
     pub base: PhysAddr,
     pub limit: PhysAddr,
@@ -32,14 +32,14 @@ pub struct Context {
 }
 
 // What stands at a descriptor address.
-#[derive(Drop)]
+#[derive(Clone, Copy)]
 pub enum Word {
     Value(u64),
     Unreachable,
 }
 
 // What a descriptor says.
-#[derive(Drop)]
+#[derive(Clone, Copy)]
 pub enum Next {
     Fault(FaultKind),
     Table(PhysAddr),
@@ -47,20 +47,20 @@ pub enum Next {
 }
 
 // Where steps 1 and 2 lead: to a fault before any descriptor is read, or to the table of the first level.
-#[derive(Drop)]
+#[derive(Clone, Copy)]
 pub enum First {
     Fault(FaultKind),
     Table(PhysAddr),
 }
 
-#[derive(Drop)]
+#[derive(Clone, Copy)]
 pub enum Ending {
     Leaf,
     Fault(FaultKind),
 }
 
 // How a lookup ends: at a level, after so many reads, at a leaf (its descriptor's address, and the leaf) or in a fault (both 0).
-#[derive(Drop)]
+#[derive(Clone, Copy)]
 pub struct Located {
     pub ending: Ending,
     pub level: u8,

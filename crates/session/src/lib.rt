@@ -16,7 +16,7 @@ use vmsa::{Access, Answer, PhysAddr, Refusal, Regime, RegimeWords};
 
 // A session: the regime last accepted, where set is not 0, and the entries. All numbers, so that any bytes are a session; the spare ones have no say.
 #[repr(C)]
-#[derive(Drop)]
+#[derive(Clone, Copy)]
 pub struct Session {
     pub regime: RegimeWords,
     pub entries: [Entry; ENTRIES],
@@ -27,14 +27,14 @@ pub struct Session {
 }
 
 // What a set regime, a store or a harvest hands back.
-#[derive(Drop)]
+#[derive(Clone, Copy)]
 pub struct Changed {
     pub session: Session,
     pub reply: Checked,
 }
 
 // What an access hands back.
-#[derive(Drop)]
+#[derive(Clone, Copy)]
 pub struct Accessed {
     pub session: Session,
     pub answer: Answer,

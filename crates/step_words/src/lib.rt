@@ -19,7 +19,7 @@ const SUMS: u8 = 16;
 // Once it has: the answer, and where update is 1 the update that is due, at address, from expected to value.
 // left and tables: the levels left below the descriptor that is wanted, and the sum of the tables on the way. The spare number is 0.
 #[repr(C)]
-#[derive(Drop)]
+#[derive(Clone, Copy)]
 pub struct StepwiseWords {
     pub regime: RegimeWords,
     pub access: AccessWords,
@@ -35,7 +35,7 @@ pub struct StepwiseWords {
 }
 
 // What an offer leaves: 0 or the number of the refusal, and the walk.
-#[derive(Drop)]
+#[derive(Clone, Copy)]
 pub struct OfferedWords {
     pub refusal: u8,
     pub walk: StepwiseWords,

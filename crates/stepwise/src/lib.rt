@@ -15,7 +15,7 @@ use lookup::{Context, First, Next, Word};
 use vmsa::{Access, Answer, Fault, FaultKind, Leaf, PhysAddr, Refusal, Regime};
 
 // A walk that wants a descriptor: what it was started with, the descriptor's address, the levels left below it, and the sum of the tables on the way.
-#[derive(Drop)]
+#[derive(Clone, Copy)]
 pub struct Wanting {
     pub regime: Regime,
     pub access: Access,
@@ -25,41 +25,41 @@ pub struct Wanting {
 }
 
 // An update of one descriptor: from the value that was read at its address to another.
-#[derive(Drop)]
+#[derive(Clone, Copy)]
 pub struct Update {
     pub address: PhysAddr,
     pub expected: u64,
     pub value: u64,
 }
 
-#[derive(Drop)]
+#[derive(Clone, Copy)]
 pub enum Due {
     Nothing,
     Update(Update),
 }
 
 // How a walk ends: its answer, and the update that is due, which is the caller's to make.
-#[derive(Drop)]
+#[derive(Clone, Copy)]
 pub struct Conclusion {
     pub answer: Answer,
     pub due: Due,
 }
 
-#[derive(Drop)]
+#[derive(Clone, Copy)]
 pub enum Stepwise {
     Wanting(Wanting),
     Ended(Conclusion),
 }
 
 // What an offer leaves of a walk, and whether it was taken.
-#[derive(Drop)]
+#[derive(Clone, Copy)]
 pub struct Offered {
     pub walk: Stepwise,
     pub reply: Checked,
 }
 
 // The levels left below the descriptor that a walk wants, and the count of reads with it.
-#[derive(Drop)]
+#[derive(Clone, Copy)]
 struct Depth {
     left: u8,
     reads: u8,

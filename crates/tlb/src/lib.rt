@@ -22,7 +22,7 @@ pub const ENTRIES: usize = 64;
 
 // A TLB entry: the leaf that it holds of a page, with the sum of the tables above it, where held is not 0. All numbers, so that any bytes are an entry; the spare ones have no say.
 #[repr(C)]
-#[derive(Drop)]
+#[derive(Clone, Copy)]
 pub struct Entry {
     pub page: u64,
     pub value: u64,
@@ -34,21 +34,21 @@ pub struct Entry {
 }
 
 // What an entry holds of a page.
-#[derive(Drop)]
+#[derive(Clone, Copy)]
 pub enum Held {
     Leaf(Leaf),
     Nothing,
 }
 
 // What an entry answers an access; or the walk does.
-#[derive(Drop)]
+#[derive(Clone, Copy)]
 pub enum Asked {
     Answered(Answer),
     Walk,
 }
 
 // What an access leaves of its page's entry, and its answer.
-#[derive(Drop)]
+#[derive(Clone, Copy)]
 pub struct Filled {
     pub entry: Entry,
     pub answer: Answer,

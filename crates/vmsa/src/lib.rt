@@ -53,15 +53,15 @@ pub const NO_USER_BELOW: u8 = 2;
 pub const NO_WRITE_BELOW: u8 = 3;
 
 // A physical address.
-#[derive(Drop)]
+#[derive(Clone, Copy)]
 pub struct PhysAddr(pub u64);
 
 // An address of the guest.
-#[derive(Drop)]
+#[derive(Clone, Copy)]
 pub struct VirtAddr(pub u64);
 
 // The table pool: its part of the lent memory, and the physical address of its first byte.
-#[derive(Drop)]
+#[derive(Clone, Copy)]
 pub struct Pool {
     pub start: usize,
     pub length: usize,
@@ -70,7 +70,7 @@ pub struct Pool {
 
 // One of the two ranges of guest addresses: its root table, its size field T, its disabled bit,
 // and HPD, with which bits of its tables do not count.
-#[derive(Drop)]
+#[derive(Clone, Copy)]
 pub struct Range {
     pub root: PhysAddr,
     pub tsz: u8,
@@ -79,7 +79,7 @@ pub struct Range {
 }
 
 // The translation granule: the size of a page and of a table.
-#[derive(Drop)]
+#[derive(Clone, Copy)]
 pub enum Granule {
     Kib4,
     Kib16,
@@ -87,7 +87,7 @@ pub enum Granule {
 }
 
 // A translation regime: stage 1 of EL1&0. ee: its descriptors are big-endian.
-#[derive(Drop)]
+#[derive(Clone, Copy)]
 pub struct Regime {
     pub pool: Pool,
     pub range0: Range,
@@ -103,7 +103,7 @@ pub struct Regime {
 
 // A regime as numbers, for where any bytes may stand: a flag is true where its byte is not 0; granule as in Arm's field TG0, 0 for 4, 1 for 64, 2 for 16 KiB, and any other number is taken as 4 KiB. The spare ones have no say, and are 0 in what we return.
 #[repr(C)]
-#[derive(Drop)]
+#[derive(Clone, Copy)]
 pub struct RegimeWords {
     pub start: usize,
     pub length: usize,
@@ -126,7 +126,7 @@ pub struct RegimeWords {
     pub spare32: u32,
 }
 
-#[derive(Drop)]
+#[derive(Clone, Copy)]
 pub enum AccessKind {
     Read,
     Write,
@@ -137,7 +137,7 @@ pub enum AccessKind {
 }
 
 // An access of size bytes at an address, from EL0 or else EL1.
-#[derive(Drop)]
+#[derive(Clone, Copy)]
 pub struct Access {
     pub address: VirtAddr,
     pub size: u64,
@@ -147,7 +147,7 @@ pub struct Access {
 
 // What an access that succeeds is told. accessed and dirtied: this access set the Access flag, cleared AP[2].
 // cacheable: it may be remembered. reads: the count of descriptor reads.
-#[derive(Drop)]
+#[derive(Clone, Copy)]
 pub struct Success {
     pub output: PhysAddr,
     pub attribute: u8,
@@ -160,7 +160,7 @@ pub struct Success {
     pub reads: u8,
 }
 
-#[derive(Drop)]
+#[derive(Clone, Copy)]
 pub enum FaultKind {
     AddressSize,
     Translation,
@@ -170,7 +170,7 @@ pub enum FaultKind {
     Alignment,
 }
 
-#[derive(Drop)]
+#[derive(Clone, Copy)]
 pub struct Fault {
     pub kind: FaultKind,
     pub level: u8,
@@ -179,7 +179,7 @@ pub struct Fault {
 }
 
 // Why a call is refused (RULES 5.1).
-#[derive(Drop)]
+#[derive(Clone, Copy)]
 pub enum Refusal {
     MemoryPool,
     PoolAddress,
@@ -196,7 +196,7 @@ pub enum Refusal {
     DirtyState,
 }
 
-#[derive(Drop)]
+#[derive(Clone, Copy)]
 pub enum Answer {
     Success(Success),
     Fault(Fault),
@@ -205,7 +205,7 @@ pub enum Answer {
 
 // The block or page descriptor that a walk ends in: its value, the levels left below it,
 // and what the tables on the way to it take away, as the sum of their bits.
-#[derive(Drop)]
+#[derive(Clone, Copy)]
 pub struct Leaf {
     pub value: u64,
     pub left: u8,

@@ -14,14 +14,14 @@ use lookup::Ending;
 use vmsa::{Access, Answer, Fault, Leaf, Regime};
 
 // The leaf that a walk lets a TLB entry hold.
-#[derive(Drop)]
+#[derive(Clone, Copy)]
 pub enum Kept {
     Leaf(Leaf),
     Nothing,
 }
 
 // What a walk over the pool gives: the answer, and the leaf as it was left where it may be remembered.
-#[derive(Drop)]
+#[derive(Clone, Copy)]
 pub struct Walked {
     pub answer: Answer,
     pub kept: Kept,

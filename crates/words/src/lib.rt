@@ -21,7 +21,7 @@ use vmsa::{
 
 // An access. kind: 0 read, 1 write, 2 update, 3 fetch, 4 probe-read, 5 probe-write; a number above is taken as an update. The spare numbers have no say.
 #[repr(C)]
-#[derive(Drop)]
+#[derive(Clone, Copy)]
 pub struct AccessWords {
     pub address: u64,
     pub size: u64,
@@ -33,7 +33,7 @@ pub struct AccessWords {
 
 // An answer. tag: 0 success, 1 fault, 2 refused; what an answer does not hold is 0, and so is spare.
 #[repr(C)]
-#[derive(Drop)]
+#[derive(Clone, Copy)]
 pub struct AnswerWords {
     pub output: u64,
     pub tag: u8,
@@ -51,21 +51,21 @@ pub struct AnswerWords {
 }
 
 // A regime to be set: 0 or the number of its refusal, and the regime as a session holds it.
-#[derive(Drop)]
+#[derive(Clone, Copy)]
 pub struct SetWords {
     pub refusal: u8,
     pub regime: RegimeWords,
 }
 
 // What an access leaves of its page's entry, and its answer.
-#[derive(Drop)]
+#[derive(Clone, Copy)]
 pub struct FilledWords {
     pub entry: Entry,
     pub answer: AnswerWords,
 }
 
 // Whether an access is answered at once, refused or by its page's entry, and the answer.
-#[derive(Drop)]
+#[derive(Clone, Copy)]
 pub struct Hit {
     pub hit: bool,
     pub answer: AnswerWords,
