@@ -1,10 +1,9 @@
 -- Facts of the geometry, for any granule.
 use Prim.Native.Nat.{ℕ, zero, suc, ◌+◌, ◌-◌, ◌*◌, ◌/◌, ◌%◌, ◌^◌, ◌<◌, ◌≤◌}
-use mathlib.Core.Bool.{Bool, true, false}
-use mathlib.Core.Path.{◌≡◌, refl, ap, sym, ◌∙◌}
+use mathlib.Core.Path.{◌≡◌}
 use native.Mathlib.Omega.{arith}
 use native.Mathlib.Nat.{mul-le-mul, div-lt_iff_lt-mul, le-div_iff_mul-le, div-mul-le_self}
-use lib.Dec.{lit≤, lit<}
+use lib.Dec.{lit≤}
 use lib.Pow.{pow_pos, pow_mono}
 use Rattle.vmsa.specs.Limits.{tsz_least, address_limit}
 use Rattle.vmsa.specs.Granules.{page_bits, Paged}

@@ -1,5 +1,5 @@
 -- The levels of the tables (RULES 6.2), for a granule of 2 ^ p bytes. A level is named by the number of levels left below it, 0 for level 3.
-use Rattle.std.specs.Prelude.{ℕ, ◌+◌, ◌*◌, ◌-◌, ◌/◌, ◌%◌, ◌^◌, min, Bool, not, ◌&&◌, List, [], ◌∷◌, eqb, leb, get_or}
+use Rattle.std.specs.Prelude.{ℕ, ◌+◌, ◌*◌, ◌-◌, ◌/◌, ◌%◌, ◌^◌, min, Bool, not, ◌&&◌, [], ◌∷◌, eqb, leb, get_or}
 use Rattle.vmsa.specs.Limits.{address_limit}
 
 -- a page, and a table, has 2 ^ p bytes
