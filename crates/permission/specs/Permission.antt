@@ -1,5 +1,5 @@
 -- What a leaf permits under the tables above it (RULES 7), and when each of steps 6 to 8 fails (RULES 6.6 to 6.8).
-use Rattle.std.specs.Prelude.{ℕ, ◌%◌, Bool, true, false, not, ◌&&◌, ◌||◌, eqb}
+use Rattle.std.specs.Prelude.{ℕ, ◌%◌, Bool, not, ◌&&◌, ◌||◌, eqb}
 use Rattle.descriptor.specs.Bits.{pick}
 use Rattle.vmsa.specs.Kinds.{is_fetch, is_probe, asks_write}
 use Rattle.vmsa.specs.Attributes.{attribute, device}
