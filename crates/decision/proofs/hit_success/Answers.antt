@@ -10,8 +10,7 @@ use Rattle.vmsa.specs.declared.FaultKind.TheVariants.{AccessFlag, Alignment, Per
 use Rattle.permission.specs.Permission.{flag_fails, alignment_fails, permission_fails}
 use Rattle.decision.specs.declared.HitKind.TheVariants as hits
 use Rattle.decision.specs.Decision.{dirty_due, decision, hit_kind}
-use Rattle.decision.proofs.hit_success.Statement.{statement}
-use Rattle.decision.proofs.hit_success.Tie as tie
+use Rattle.decision.proofs.hit_success.Goals as goal
 
 -- where a held leaf answers with a success, no step fails and nothing becomes dirty
 all_pass : (x y z d : Bool) → pick x (hits.Fault AccessFlag) (pick y (hits.Fault Alignment) (pick z (hits.Fault Permission) (pick d hits.Miss hits.Success))) ≡ hits.Success
@@ -27,15 +26,12 @@ passed : (r : Regime) (a : Access) (l : Leaf) → hit_kind r a l ≡ hits.Succes
 unfolding hit_kind
 passed r a l e = all_pass (flag_fails r l) (alignment_fails r a l) (permission_fails r a l) (dirty_due r a l) e
 
-success-requires : tie.Need-success-requires
-success-requires c κs = let a = c.args in (c.requires.0, sym (passed a.r a.a a.l c.requires.1).3)
+pub success-requires : goal.success-requires
+success-requires c = let a = c.args in (c.requires.0, sym (passed a.r a.a a.l c.requires.1).3)
 
-returns : tie.Need-returns
+pub returns : goal.returns
 unfolding decision
 returns c =
-    let a = c.before.args in
-    let h = passed a.r a.a a.l c.before.requires.1 in
+    let a = c.args in
+    let h = passed a.r a.a a.l c.requires.1 in
     c.success.ensures ∙ rw (h.0, h.1, h.2)
-
-pub hit-success-spec : {M : Type 1} → statement M
-hit-success-spec = tie.close (tie.spec success-requires returns)
