@@ -53,7 +53,7 @@ module _ (read : ℕ → Word) where
     onward_sum n sum a v q h (next.Fault kind) = tt
     onward_sum zero sum a v q h (next.Table table) = tt
     onward_sum (suc n) sum a v q h (next.Table table) =
-        one_more sum a v (entry_at c n table.0) _ (descend c read (suc n) (with_table sum v) table.0).end q (h (with_table sum v) table.0)
+        one_more sum a v (entry_at c n table.0) (on_word (ended (fault ExternalAbort (level_of n))) (followed c (descend c read n) (with_table sum v) n (entry_at c n table.0)) (read (entry_at c n table.0))).visited (descend c read (suc n) (with_table sum v) table.0).end q (h (with_table sum v) table.0)
     onward_sum n sum a v q h next.Leaf = refl
 
     descend_sum : (n sum t : ℕ) → SumIs false sum (descend c read n sum t).visited (descend c read n sum t).end
