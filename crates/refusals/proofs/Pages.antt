@@ -1,5 +1,5 @@
 -- The pages of the ranges: none has more than there are.
-use Rattle.std.proofs.Common.{◌≡◌, ℕ, ◌+◌, ◌-◌, ◌^◌, ◌<◌, ◌≤◌, Bool, true, false, not, ◌&&◌, ◌||◌, eqb, ltb, leb, sym, refl, ap, ◌∙◌, arith, pow_mono, eq-eqb}
+use Rattle.std.proofs.Common.{◌≡◌, ℕ, ◌+◌, ◌-◌, ◌<◌, ◌≤◌, Bool, true, false, not, ◌&&◌, ◌||◌, eqb, ltb, leb, refl, arith, pow_mono, eq-eqb}
 use borrow.Author.Tests.{lt-leb}
 use Rattle.descriptor.proofs.Tests.{or_true}
 use Rattle.vmsa.specs.Limits.{harvest_limit}

@@ -1,5 +1,5 @@
 -- When a call is refused: one test for each row of RULES 5.1. All sums are exact.
-use Rattle.std.specs.Prelude.{ℕ, zero, suc, ◌+◌, ◌-◌, ◌%◌, ◌^◌, Bool, true, false, not, ◌&&◌, ◌||◌, ◌==◌, nat_le, nat_lt}
+use Rattle.std.specs.Prelude.{ℕ, zero, suc, ◌+◌, ◌-◌, ◌%◌, ◌^◌, Bool, false, not, ◌&&◌, ◌||◌, ◌==◌, nat_le, nat_lt}
 use Rattle.vmsa.specs.Limits.{memory_limit, pool_limit, address_limit, tsz_least, tsz_most, output_most, harvest_limit}
 use Rattle.vmsa.specs.Granules.{page_bits_of}
 use Rattle.geometry.specs.Geometry.{unaligned, page_of}
@@ -8,7 +8,6 @@ use Rattle.vmsa.specs.Attributes.{attribute, device, normal}
 use Rattle.bitmap.specs.Map.{bytes_for}
 use Rattle.vmsa.specs.declared.Regime.{Regime}
 use Rattle.vmsa.specs.declared.Pool.{Pool}
-use Rattle.vmsa.specs.declared.Range.{Range}
 use Rattle.vmsa.specs.declared.Access.{Access}
 
 -- 1: memory above its limit; pool start or length not a multiple of the granule; length 0 or above its limit; pool passes the end of memory
