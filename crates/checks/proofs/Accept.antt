@@ -1,25 +1,23 @@
 -- What a call that is not refused can rely on.
-use Prim.Native.Nat.{ℕ, zero, suc, ◌+◌, ◌-◌, ◌%◌, ◌^◌, ◌<◌, ◌≤◌}
+use Prim.Native.Nat.{ℕ, zero, suc, ◌+◌, ◌%◌, ◌<◌, ◌≤◌}
 use mathlib.Core.Bool.{Bool, true, false, not, ◌&&◌, ◌||◌}
-use mathlib.Core.List.{List, [], ◌∷◌, ◌++◌}
+use mathlib.Core.List.{List, [], ◌∷◌}
 use mathlib.Core.Path.{◌≡◌, refl, sym, ◌∙◌}
 use native.Mathlib.Omega.{arith}
 use lib.Dec.{leb, ltb, eqb}
 use borrow.Author.Tests.{ltb-false, leb-false, not-false, eqb-true, eqb-false}
-use Rattle.descriptor.specs.Bits.{pick}
 use Rattle.descriptor.proofs.Tests.{or_false}
 use Rattle.vmsa.specs.Limits.{memory_limit, pool_limit, address_limit, tsz_least, tsz_most, output_most, harvest_limit, Sized}
 use Rattle.vmsa.specs.Granules.{page_bits_of}
-use Rattle.geometry.specs.Geometry.{page_size, unaligned, page_of}
+use Rattle.geometry.specs.Geometry.{unaligned, page_of}
 use Rattle.vmsa.specs.Kinds.{is_fetch, is_probe}
 use Rattle.vmsa.specs.declared.Regime.{Regime}
 use Rattle.vmsa.specs.declared.Access.{Access}
 use Rattle.vmsa.specs.declared.Refusal.{Refusal}
-use Rattle.checks.specs.declared.Checked.{Checked}
 use Rattle.checks.specs.declared.Checked.TheVariants.{Accepted, Refused}
 use Rattle.bitmap.specs.Map.{bytes_for}
-use Rattle.refusals.specs.Tests.{memory_pool_bad, pool_address_bad, tsz_bad, sizes_bad, root_bad, roots_bad, attributes_bad, dirty_state_bad, size_bad, access_size_bad, last_byte, crossing, in_range0, in_range1, page_range_bad, map_length_bad}
-use Rattle.checks.specs.Order.{first_before, first_of, regime_rows, access_rows, walk_rows, start_rows, regime_check, access_check, walk_check, start_check, asked_rows, asked_check, harvest_check}
+use Rattle.refusals.specs.Tests.{memory_pool_bad, pool_address_bad, tsz_bad, sizes_bad, root_bad, roots_bad, dirty_state_bad, size_bad, access_size_bad, last_byte, crossing, in_range0, in_range1, page_range_bad, map_length_bad}
+use Rattle.checks.specs.Order.{first_of, regime_rows, access_rows, walk_rows, start_rows, regime_check, access_check, walk_check, start_check, asked_rows, asked_check, harvest_check}
 use Rattle.checks.proofs.Rows.{both, harvest_apart}
 
 -- no test of the rows applies
