@@ -2,13 +2,13 @@
 --     copied, field_of      an operand that is a local, or field k of one: the local lies at entry n of the context
 --     pointed               what field 0 of a local points to, as the bytes of a slice
 --     sets                  a local that was room, at entry n, is given a value
---     Value, a_struct, a-number     a value that owns nothing; a struct of numbers is one, and a number
+--     Value, a_struct, a_number     a value that owns nothing; a struct of numbers is one, and a number
 --     asks xs               what a callee asks that takes the values xs alone: it is had for nothing
 --     lends met xs ys       what a callee asks that is lent something, between the values xs and ys: what the borrow owns and its token stand at the head; met, what it requires
 --     lends_both met xs ys zs     the same of one that is lent two things: xs before them, ys between them, zs after them
 --     Gave, gave            what a callee gives that changes nothing of what it was lent: its result x, of which φ holds
---     GaveMemory, gave-memory     what a callee gives that was lent the memory for good: x, and the memory's last bytes l, of which φ holds
---     GaveBoth, gave-both         the same of one that was lent two memories
+--     GaveMemory, gave_memory     what a callee gives that was lent the memory for good: x, and the memory's last bytes l, of which φ holds
+--     GaveBoth, gave_both         the same of one that was lent two memories
 -- Assumes `Logic`.
 use mathlib.Core.Path.{◌≡◌, refl, sym, ap, subst}
 use Prim.Native.Nat.{ℕ, zero, suc, ◌+◌}
@@ -17,7 +17,7 @@ use mathlib.Core.Option.{some as found}
 use lib.ListN.{length}
 use lib.Dec.{T}
 use seplogic.Ra.Ura.{Ura}
-use seplogic.Ra.TreeShare.{full_share}
+use base.Fraction.{full_share}
 use mir.Syntax.{Width, Sym, Ty, Tys, Step as PlaceStep, Place, Body, Rv as RValue, place, field, deref, copy, assign, seq, ty_struct}
 use mir.Val.{Val, Vals, WT, has_ty, vptr, vstruct, vcons}
 use mir.Fields.{get_v}
@@ -76,7 +76,7 @@ pub record Value {M : Type 1} {𝓤 : Ura M} (𝓛 : Logic 𝓤) : Type 2 where
   pub type : RattleType
   pub it : type.Denot
   pub vals : List Val
-  pub had : ent 𝓤 (emp 𝓤) (sem 𝓛 (type.own it vals))
+  pub had : ent 𝓤 (emp 𝓤) (sem 𝓛 (type.own_val it vals))
 
 module _ {M : Type 1} {𝓤 : Ura M} (𝓛 : Logic 𝓤) where
   abbrev pub a_struct : (T : Declared) (L : LL.Laws T) → Plains (fields T) → (x : T.D) → Is (row T) x (LL.vals T L x) → Value 𝓛
@@ -88,11 +88,11 @@ module _ {M : Type 1} {𝓤 : Ura M} (𝓛 : Logic 𝓤) where
 -- what the values xs own, and then F
 abbrev pub Beside : {M : Type 1} {𝓤 : Ura M} {𝓛 : Logic 𝓤} → List (Value 𝓛) → Fml → Fml
 Beside [] F = F
-Beside (x ∷ xs) F = fsep (x.type.own x.it x.vals) (Beside xs F)
+Beside (x ∷ xs) F = fsep (x.type.own_val x.it x.vals) (Beside xs F)
 
 beside : {M : Type 1} {𝓤 : Ura M} {𝓛 : Logic 𝓤} {K : Type 0} {Γ : List (Item 𝓤)} {G : Goal 𝓤 𝓛.H} → K → (xs : List (Value 𝓛)) {F : Fml} → Step K 𝓛 (‵ (Beside xs F) ∷ Γ) G (‵ F ∷ Γ) G
 beside t [] = step (λ s. s)
-beside {𝓛 = 𝓛} t (x ∷ xs) = step (λ s. beside t xs $ use0 𝓛 (‵ (x.type.own x.it x.vals)) x.had $ fjoin t $ s)
+beside {𝓛 = 𝓛} t (x ∷ xs) = step (λ s. beside t xs $ use0 𝓛 (‵ (x.type.own_val x.it x.vals)) x.had $ fjoin t $ s)
 
 module _ {M : Type 1} {𝓤 : Ura M} {𝓛 : Logic 𝓤} {K : Type 0} {Γ : List (Item 𝓤)} {G : Goal 𝓤 𝓛.H} where
   pub asks : K → (xs : List (Value 𝓛)) → Step K 𝓛 (raw (sep 𝓤 (sep 𝓤 (emp 𝓤) (sem 𝓛 (Beside xs ftrue))) (emp 𝓤)) ∷ Γ) G Γ G
@@ -151,16 +151,16 @@ lasts k γ m l F = silent k (fsep (fsep (finally u8 γ l) (feq ℕ (length l) (l
 module _ {M : Type 1} (𝓤 : Ura M) (R : RattleType) (tokens : Item 𝓤) (v : Val) where
   -- the callee has n parameters
   abbrev pub Gave : ℕ → (R.Denot → Type 0) → Item 𝓤
-  Gave n φ = later (some (λ (x : R.Denot). (tokens ⊛ ‵ (R.own x (v ∷ []))) ⊛ some (λ (_ : Silent n (Unit {0})). ‵ (silent n ftrue) ⊛ raw (fact 𝓤 (φ x)))))
+  Gave n φ = later (some (λ (x : R.Denot). (tokens ⊛ ‵ (R.own_val x (v ∷ []))) ⊛ some (λ (_ : Silent n (Unit {0})). ‵ (silent n ftrue) ⊛ raw (fact 𝓤 (φ x)))))
 
   -- it has k parameters before the memory, which was m, and n after it
   abbrev pub GaveMemory : ℕ → GName → List ℕ → ℕ → (R.Denot → List ℕ → Type 0) → Item 𝓤
-  GaveMemory k γ m n φ = later (some (λ (x : R.Denot). (tokens ⊛ ‵ (R.own x (v ∷ []))) ⊛ some (λ (ws : Lasts k n).
+  GaveMemory k γ m n φ = later (some (λ (x : R.Denot). (tokens ⊛ ‵ (R.own_val x (v ∷ []))) ⊛ some (λ (ws : Lasts k n).
       ‵ (lasts k γ m (bytes k n ws) (silent n ftrue)) ⊛ raw (fact 𝓤 (φ x (bytes k n ws))))))
 
   -- n between the two memories, and j after them
   abbrev pub GaveBoth : ℕ → GName → List ℕ → ℕ → GName → List ℕ → ℕ → (R.Denot → List ℕ → List ℕ → Type 0) → Item 𝓤
-  GaveBoth k γ m n γ' m' j φ = later (some (λ (x : R.Denot). (tokens ⊛ ‵ (R.own x (v ∷ []))) ⊛ some (λ (ws : LastsBoth k n j).
+  GaveBoth k γ m n γ' m' j φ = later (some (λ (x : R.Denot). (tokens ⊛ ‵ (R.own_val x (v ∷ []))) ⊛ some (λ (ws : LastsBoth k n j).
       ‵ (lasts k γ m (bytes1 k n j ws) (lasts n γ' m' (bytes2 k n j ws) (silent j ftrue))) ⊛ raw (fact 𝓤 (φ x (bytes1 k n j ws) (bytes2 k n j ws))))))
 
 module _ {M : Type 1} {𝓤 : Ura M} {𝓛 : Logic 𝓤} {K : Type 0} {G : Goal 𝓤 𝓛.H} where
@@ -174,7 +174,7 @@ module _ {M : Type 1} {𝓤 : Ura M} {𝓛 : Logic 𝓤} {K : Type 0} {G : Goal 
 
 -- the machine value of a result x is `val x`
 module _ {M : Type 1} {𝓤 : Ura M} {𝓛 : Logic 𝓤} {K : Type 0} {C : Calls 𝓤 𝓛.H} {Λ : Loops 𝓤 𝓛.H} {E : Env 𝓤 𝓛.H} {d : Place} {rest : Body} {q : Post 𝓤 𝓛.H} (R : RattleType) (val : R.Denot → Val) (tells : Tells R (Is R) (λ x. val x ∷ [])) where
-  spelt : K → {x : R.Denot} {v : Val} {Γ : List (Item 𝓤)} → (Is R x (val x ∷ []) → Seq K 𝓛 Γ (lands C Λ E d (val x) rest q)) → Seq K 𝓛 (‵ (R.own x (v ∷ [])) ∷ Γ) (lands C Λ E d v rest q)
+  spelt : K → {x : R.Denot} {v : Val} {Γ : List (Item 𝓤)} → (Is R x (val x ∷ []) → Seq K 𝓛 Γ (lands C Λ E d (val x) rest q)) → Seq K 𝓛 (‵ (R.own_val x (v ∷ [])) ∷ Γ) (lands C Λ E d v rest q)
   spelt t {x} {v} k = facts t R (Is R) (shows 𝓛 R) x (v ∷ []) (λ is.
       regoal t (λ (u : Val). lands C Λ E d u rest q) (ap only (tells x (v ∷ []) is)) refl $ k (subst (Is R x) (tells x (v ∷ []) is) is))
 

@@ -1,5 +1,6 @@
 pub mod Walks
 pub mod Mutable
+pub mod Assigned
 pub mod Shared
 pub mod Element
 pub mod Calls

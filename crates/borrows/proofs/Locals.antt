@@ -1,7 +1,7 @@
 -- A function's locals, all at once.
 --     allocated     at entry: a block for each local, and room in it. In the context the last local stands first
 --     released      at the return: all are given back, whatever they hold. They are what stands behind the first n entries of the context, the last local first
---     released-but  the same, where those of the numbers rs hold nothing yet
+--     released_but  the same, where those of the numbers rs hold nothing yet
 -- Assumes `Logic`.
 use mathlib.Core.Path.{◌≡◌, subst}
 use Prim.Native.Nat.{ℕ, zero, suc}
@@ -9,7 +9,7 @@ use mathlib.Core.Bool.{Bool, true, false, ◌||◌}
 use mathlib.Core.List.{List, [], ◌∷◌}
 use lib.Dec.{eqb}
 use seplogic.Ra.Ura.{Ura}
-use seplogic.Ra.TreeShare.{full_share}
+use base.Fraction.{full_share}
 use mir.Syntax.{Ty, Local, local}
 use mir.Val.{Val}
 use base.Logic.{SProp, ent, sep, emp, id⊢, via, comm∗, assoc∗, assoc', mono_l, mono_r, fst∗, emp∗}
@@ -39,7 +39,7 @@ module _ {M : Type 1} {𝓤 : Ura M} {𝓛 : Logic 𝓤} {K : Type 0} where
 
   pub allocated : K → {Γ : List (Item 𝓤)} {G : Env 𝓤 H → Goal 𝓤 H} (ls : List Local) → ((bs : Blocks ls) → Seq K 𝓛 (rooms 𝓤 ls bs Γ) (G (env 𝓤 H ls bs))) → Seq K 𝓛 Γ (allocs ls G)
   allocated t [] k = alloc0 t $ k tt
-  allocated t (local τ h ∷ ls) k = alloc1 t (λ b. allocated t ls (λ bs. k (b, bs)))
+  allocated t {Γ = Γ} (local τ h ∷ ls) k = alloc1 t (λ b. allocated t {Γ = ‵ (froom τ b zero) ∷ ‵ (fdies τ b) ∷ Γ} ls (λ bs. k (b, bs)))
 
 -- ---- at the return
 abbrev among : List ℕ → ℕ → Bool

@@ -1,11 +1,11 @@
 -- Steps of a walk by the number that the MIR gives a local. The context is n entries, and then the function's locals, the last one first, as `Locals.antt`'s `allocated` puts them. So local i lies at `lies E n i`, and a step is told n alone.
 --     param                      at entry, where n is 0: an argument is stored in its local
 --     local, part, points        an operand that is a local, or field k of one; what field 0 of one points to, as the bytes of a slice
---     behind, behind-is          an operand that is field k of the struct that a local points to, whose cell is entry p; and the place of that field
+--     behind, behind_is          an operand that is field k of the struct that a local points to, whose cell is entry p; and the place of that field
 --     sets_behind                that field is given a value
---     gets, gets-anew, takes     a local that was room is given a value; one that held something is; a call's result lands in one that was room
+--     gets, gets_anew, takes     a local that was room is given a value; one that held something is; a call's result lands in one that was room
 --     fetch                      of what stands behind the locals k entries, from entry j on, are brought to the head
---     leaves, leaves-within      the function returns: its result is read, and its locals are given back. Within a branch, where those of the numbers rs hold nothing yet
+--     leaves, leaves_within      the function returns: its result is read, and its locals are given back. Within a branch, where those of the numbers rs hold nothing yet
 -- Assumes `Logic`.
 use mathlib.Core.Path.{◌≡◌, refl, sym, subst}
 use Prim.Native.Nat.{ℕ, zero, suc, ◌+◌, ◌-◌, ◌*◌}
@@ -14,7 +14,7 @@ use mathlib.Core.Option.{some as found}
 use lib.ListN.{length, replicate}
 use lib.Dec.{T}
 use seplogic.Ra.Ura.{Ura}
-use seplogic.Ra.TreeShare.{full_share}
+use base.Fraction.{full_share}
 use mir.Syntax.{Sym, Ty, Tys, Body, Rv as RValue, place, field, deref, copy, assign, seq, return, ty_struct}
 use mir.Val.{Val, Vals, WT, has_ty, vptr, vstruct, vcons}
 use mir.Fields.{get_v, set_v}

@@ -8,16 +8,17 @@ use Prim.Native.Nat.{ℕ, zero, suc}
 use mathlib.Core.List.{List, [], ◌∷◌}
 use lib.Dec.{T as Holds}
 use seplogic.Ra.Ura.{Ura}
-use seplogic.Ra.TreeShare.{full_share}
+use base.Fraction.{full_share}
 use mir.Syntax.{Ty, Lifetime, Body, place, deref, copy, rv_opd, assign, seq}
 use mir.Val.{WT, has_ty, vptr}
-use base.Fml.{Fml, Lft, Share, fat, froom, flft, fobor}
+use base.Fml.{Fml, Lft, Share, fat, froom, flft}
 use prog.Wp.{Env, Calls, Loops, spot_of}
 use types.Logic.{Logic}
-use types.Kit.{Goal, Item, Post, runs, Seq, Soaks, Step, step, ‵, nth, put, ◌$◌, move, drop, use1, fsplit3}
+use types.Kit.{Goal, Item, Post, runs, Seq, Soaks, Step, step, ‵, nth, put, ◌$◌, move, drop, use1, fsplit}
 use types.Run.{look, stop, hop, from, load, of_opd}
 use denote.Laws.{Is, shows}
 use denote.Memory.{cell_at, part_at}
+use denote.Opens.{Shut}
 use denote.Ref.{Bor, ShrRef, shr_vals}
 use denote.Steps.{looks, shuts, owned, peeks}
 use denote.Struct.Declared.{Declared, fields, shape, row}
@@ -31,22 +32,23 @@ module _ (T : Declared) (L : LL.Laws T) where
   abbrev Cell : Share → Bor T.D → Fml
   Cell s x = fat s (layout (shape T)) x.ref_ptr.0 x.ref_ptr.1 (LL.val T L x.now)
 
-  abbrev Open : Lft → Share → Share → Bor T.D → Fml
-  Open κ q s x = fobor κ q (part_at (row T) s x.now x.ref_ptr.0 x.ref_ptr.1)
+  -- what shuts it
+  abbrev Open : {M : Type 1} {𝓤 : Ura M} (𝓛 : Logic 𝓤) → Lft → Share → Share → Bor T.D → Item 𝓤
+  Open 𝓛 κ q s x = Shut 𝓛 κ q (part_at (row T) s x.now x.ref_ptr.0 x.ref_ptr.1)
 
   abbrev IsNow : Bor T.D → Type 0
   IsNow x = Is (row T) x.now (LL.vals T L x.now)
 
   module _ {M : Type 1} {𝓤 : Ura M} {𝓛 : Logic 𝓤} {K : Type 0} {Γ : List (Item 𝓤)} {G : Goal 𝓤 𝓛.H} where
-    pub looked : K → Soaks G → LL.Copyables T.parts → (ℓ : Lifetime) (κ : Lft) (q : Share) (x : Bor T.D) → ((s : Share) → IsNow x → Seq K 𝓛 (‵ (Cell s x) ∷ ‵ (Open κ q s x) ∷ Γ) G)
+    pub looked : K → Soaks G → LL.Copyables T.parts → (ℓ : Lifetime) (κ : Lft) (q : Share) (x : Bor T.D) → ((s : Share) → IsNow x → Seq K 𝓛 (‵ (Cell s x) ∷ Open 𝓛 κ q s x ∷ Γ) G)
         → Seq K 𝓛 (‵ ((ShrRef ℓ κ (row T)).own_val x (shr_vals x)) ∷ ‵ (flft κ q) ∷ Γ) G
     looked t z cs ℓ κ q x k =
-        fsplit3 t $ drop t $ drop t $ looks t z (row T) (Is (row T)) (shows 𝓛 (row T)) (LL.vals T L) (LL.tells T L) (LL.copy T cs 𝓛) x.now x.ref_ptr.0 x.ref_ptr.1 (λ s vs.
+        fsplit t $ drop t $ looks t z (row T) (LL.copied T cs 𝓛).opens x.now x.ref_ptr.0 x.ref_ptr.1 (λ s vs.
         spelt t (row T) (Is (row T)) (shows 𝓛 (row T)) (LL.vals T L) (LL.tells T L) s x.now vs x.ref_ptr.0 x.ref_ptr.1 $ move t (1 ∷ []) $ peeks t (row T) (Is (row T)) (shows 𝓛 (row T)) x.now (LL.vals T L x.now) (λ is.
         -- [what the struct owns; the share of its cell; what shuts it; the borrow]
         drop t $ move t (2 ∷ []) $ drop t $ use1 𝓛 (‵ (Cell s x)) (𝓛.laws.raw_at s (layout (shape T)) x.ref_ptr.0 x.ref_ptr.1 (LL.val T L x.now)) $ k s is))
 
-    pub shut : K → Soaks G → Plains (fields T) → (κ : Lft) (q s : Share) (x : Bor T.D) → IsNow x → Step K 𝓛 (‵ (flft κ q) ∷ Γ) G (‵ (Cell s x) ∷ ‵ (Open κ q s x) ∷ Γ) G
+    pub shut : K → Soaks G → Plains (fields T) → (κ : Lft) (q s : Share) (x : Bor T.D) → IsNow x → Step K 𝓛 (‵ (flft κ q) ∷ Γ) G (‵ (Cell s x) ∷ Open 𝓛 κ q s x ∷ Γ) G
     shut t z pl κ q s x is = step (λ k.
         use1 𝓛 (‵ (cell_at s (row T).mir (LL.vals T L x.now) x.ref_ptr.0 x.ref_ptr.1)) (𝓛.laws.at_raw s (layout (shape T)) x.ref_ptr.0 x.ref_ptr.1 (LL.val T L x.now)) $ owned t (row T) (Is (row T)) (LL.makes T pl 𝓛) x.now _ is $ move t (1 ∷ 0 ∷ []) $ shuts t z (row T) s x.now (LL.vals T L x.now) x.ref_ptr.0 x.ref_ptr.1 $ k)
 

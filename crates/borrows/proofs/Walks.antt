@@ -1,25 +1,24 @@
 -- What the walks by hand of functions over references share.
 --     apart1 .. apart4          at entry, the tokens and what the references own, one beside the other; of the parameters behind them nothing is kept
---     apart2-1                  the same of three references, where two parameters of which nothing is kept stand before the third
+--     apart2_1                  the same of three references, where two parameters of which nothing is kept stand before the third
 --     together1 .. together4    at exit, the tokens as one
 --     hands                     what a callee asks: what its first parameter owns, what the others own, and their tokens
 --     forks                     a branch that may return, and what comes after it
 --     meets                     from a walk of a function to its theorem; `proved` where it calls one other
---     given-up                  a memory that is given back as it is: what says its last bytes
+--     given_up                  a memory that is given back as it is: what says its last bytes
 -- Assumes `Logic`.
-use mathlib.Core.Path.{◌≡◌, refl}
-use Prim.Native.Nat.{ℕ, zero}
+use mathlib.Core.Path.{◌≡◌}
+use Prim.Native.Nat.{ℕ}
 use mathlib.Core.Bool.{Bool, not}
 use mathlib.Core.List.{List, [], ◌∷◌}
 use lib.ListN.{length}
 use lib.Dec.{T}
 use seplogic.Ra.Ura.{Ura}
-use seplogic.Ra.TreeShare.{full_share}
-use mir.Syntax.{Ty, Fn, Opd as Operand, Body as Code, Lifetime, seq, cond, skip}
-use mir.Val.{Val, vbool}
-use base.Logic.{SProp, ent, sep, emp}
+use mir.Syntax.{Fn, Opd as Operand, Body as Code, Lifetime, seq, cond, skip}
+use mir.Val.{vbool}
+use base.Logic.{ent, sep, emp}
 use base.Fml.{GName, Lft, Fml, ftrue, fsep, fres}
-use prog.Routine.{Name, Routine, Env as Calling}
+use prog.Routine.{Callee, Routine, Env as Calling}
 use prog.Model.{Model}
 use prog.Wp.{Env, Calls, Loops, Wp, WpFn, Closed, after_seq}
 use types.Logic.{Logic, sem}
@@ -81,7 +80,7 @@ module _ {M : Type 1} {𝓤 : Ura M} (𝓛 : Logic 𝓤) (𝓜 : Model 𝓤 𝓛
   open 𝓛 use {H}
 
   pub meets : (T : Ended) (hs : Stays T.signature.params T.kept) → AllGo 𝓛 T.signature.lifetimes T.signature.params T.kept hs
-      → (c : Clauses 𝓤 T) (env : Calling) (k : Name) (f : Fn) → Closed 𝓤 H (tables 𝓤 H 𝓜 𝓡 env).C (tables 𝓤 H 𝓜 𝓡 env).Λ k f
+      → (c : Clauses 𝓤 T) (env : Calling) (k : Callee) (f : Fn) → Closed 𝓤 H (tables 𝓤 H 𝓜 𝓡 env).C (tables 𝓤 H 𝓜 𝓡 env).Λ k f
       → (FmC 𝓤 H 𝓛.laws (tables 𝓤 H 𝓜 𝓡 env).C → Walks 𝓛 T hs (WpFn 𝓤 H (tables 𝓤 H 𝓜 𝓡 env).C (tables 𝓤 H 𝓜 𝓡 env).Λ f) c)
       → Meets 𝓛 T.signature (𝓡.run (env k)) (closing 𝓛 T c)
   unfolding tables_of
@@ -92,8 +91,8 @@ module _ {M : Type 1} {𝓤 : Ura M} (𝓛 : Logic 𝓤) (𝓜 : Model 𝓤 𝓛
 
   -- one callee, of the key k', the routine r' and the contract c'
   pub proved : (T : Ended) (hs : Stays T.signature.params T.kept) → AllGo 𝓛 T.signature.lifetimes T.signature.params T.kept hs
-      → (c : Clauses 𝓤 T) (env : Calling) (k : Name) (f : Fn) → Closed 𝓤 H (tables 𝓤 H 𝓜 𝓡 env).C (tables 𝓤 H 𝓜 𝓡 env).Λ k f
-      → (c' : Contract 𝓤) (k' : Name) (r' : Routine) → env k' ≡ r' → Triple 𝓤 (𝓡.run r') c'
+      → (c : Clauses 𝓤 T) (env : Calling) (k : Callee) (f : Fn) → Closed 𝓤 H (tables 𝓤 H 𝓜 𝓡 env).C (tables 𝓤 H 𝓜 𝓡 env).Λ k f
+      → (c' : Contract 𝓤) (k' : Callee) (r' : Routine) → env k' ≡ r' → Triple 𝓤 (𝓡.run r') c'
       → ((C : Calls 𝓤 H) (Λ : Loops 𝓤 H) → FmC 𝓤 H 𝓛.laws C → Triple 𝓤 (C k') c' → Walks 𝓛 T hs (WpFn 𝓤 H C Λ f) c)
       → Meets 𝓛 T.signature (𝓡.run (env k)) (closing 𝓛 T c)
   proved T hs gs c env k f unfolded c' k' r' calls met walks =
