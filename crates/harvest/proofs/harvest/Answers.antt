@@ -38,4 +38,4 @@ returns-in-Accepted c =
     let s = a.r.pool.start in
     let n = a.r.pool.length in
     let z : harvest_check (length a.memory.now) a.r a.first a.count (length a.map.now) ≡ Accepted = sym c.check_harvest.ensures ∙ c.in-Accepted.is in
-    memory_harvest a.r a.first a.count a.memory.now a.map.now z c.harvest_pool.new.pool c.harvest_pool.new.map.1.1.1.0 (s + n - s) (add-sub_cancel_left s n) c.harvest_pool.ensures.0 c.harvest_pool.ensures.1
+    memory_harvest a.r a.first a.count a.memory.now a.map.now z c.harvest_pool.new.pool c.harvest_pool.new.map (s + n - s) (add-sub_cancel_left s n) c.harvest_pool.ensures.0 c.harvest_pool.ensures.1
