@@ -23,7 +23,7 @@ loop-x-preserved c =
       omega arith,
       omega arith,
       omega (arith, l.invariant.2),
-      ap (λ (q : List ℕ). length q) c.clean_at.ensures ∙ at_long a.ee a.page a.limit.0 l.at l.pool room ∙ l.invariant.3,
+      ap (λ (q : List ℕ). length q) c.clean_at.ensures ∙ at_long _ a.page a.limit.0 l.at l.pool room ∙ l.invariant.3,
       cleans_join _ _ a.lo l.x (l.x + 1) a.pool.now l.pool r l.invariant.0 (omega arith) l.invariant.4
           (run_page a.ee a.base a.limit a.page a.from (a.to - a.from) a.table.0 a.lo a.hi
           (length a.pool.now) _ k l.x l.invariant.0 (omega arith) l.pool l.invariant.3 l.at l.invariant.2 r c.clean_at.ensures),
