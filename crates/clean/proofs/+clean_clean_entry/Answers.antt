@@ -109,8 +109,9 @@ clean_entry-returns-then-dirty-whole_in t c =
     let p = c.requires in
     let v = c.in-Value.v in
     let d : decoded a.page a.limit.0 a.left v ≡ Leaf = sym c.decode.ensures.0 ∙ c.in-Leaf.is in
+    let wide : c.pages_in.result ≡ pages_in a.page a.left = c.pages_in.ensures.0 in
     let y : (dirty v && whole_in a.from (a.to - a.from) (pages_in a.page a.left) a.lo) ≡ true =
-    rw (← c.pages_in.ensures.0, ← c.dirty.ensures, ← c.whole_in.ensures) c.if-dirty-whole_in.true in
+    rw (← wide, ← c.dirty.ensures, ← c.whole_in.ensures) c.if-dirty-whole_in.true in
     cleans_to (c.store.ensures ∙ ap (put a.ee a.pool.now (a.entry.0 - a.base.0)) c.set_bit.ensures)
     (cleans_set a.ee a.base a.limit a.page a.from (a.to - a.from) p.0.paged a.left a.entry.0 a.lo a.hi a.pool.now p.2.base_aligned p.2.aligned v (sym c.fetch.ensures ∙ c.in-Value.is)
     d p.3 y)
@@ -121,7 +122,8 @@ clean_entry-returns-else-dirty-whole_in t c =
     let p = c.requires in
     let v = c.in-Value.v in
     let d : decoded a.page a.limit.0 a.left v ≡ Leaf = sym c.decode.ensures.0 ∙ c.in-Leaf.is in
+    let wide : c.pages_in.result ≡ pages_in a.page a.left = c.pages_in.ensures.0 in
     let n : (dirty v && whole_in a.from (a.to - a.from) (pages_in a.page a.left) a.lo) ≡ false =
-    rw (← c.pages_in.ensures.0, ← c.dirty.ensures, ← c.whole_in.ensures) c.if-dirty-whole_in.false in
+    rw (← wide, ← c.dirty.ensures, ← c.whole_in.ensures) c.if-dirty-whole_in.false in
     cleans_left a.ee a.base a.limit a.page a.from (a.to - a.from) p.0.paged a.left a.entry.0 a.lo a.hi a.pool.now p.2.base_aligned p.2.aligned v
     (sym c.fetch.ensures ∙ c.in-Value.is) d p.3 n
