@@ -1,39 +1,35 @@
 -- The session's walk past the checks is the plain walk over the pool.
-use Prim.Native.Nat.{ℕ, zero, suc, ◌+◌, ◌-◌, ◌*◌, ◌/◌, ◌%◌, ◌≤◌, ◌^◌}
-use mathlib.Core.Bool.{Bool, true, false, not, ◌||◌}
+use Prim.Native.Nat.{ℕ, ◌+◌, ◌-◌, ◌*◌, ◌/◌, ◌%◌, ◌≤◌, ◌^◌}
+use mathlib.Core.Bool.{Bool, true, false, ◌||◌}
 use mathlib.Core.List.{List}
-use mathlib.Core.Option.{Option, none, some}
-use mathlib.Core.Path.{◌≡◌, refl, sym, ap, ap₂, ◌∙◌}
-use native.Mathlib.Nat.{mul-div_cancel, add-zero}
+use mathlib.Core.Option.{none, some}
+use mathlib.Core.Path.{◌≡◌, refl, sym, ap}
+use native.Mathlib.Nat.{mul-div_cancel}
 use native.Mathlib.Omega.{arith}
-use lib.ListN.{length, take, drop, length-drop, take-append-drop}
+use lib.ListN.{length}
 use lib.Pow.{pow_pos}
-use lib.Seq.{drop-drop, length-take-le}
 use borrow.Author.Tests.{not-true}
-use Rattle.descriptor.specs.Bytes.{bytes_of, put}
+use Rattle.descriptor.specs.Bytes.{put}
 use Rattle.descriptor.specs.Bits.{pick}
-use Rattle.descriptor.proofs.Laws.{length_bytes, put_part}
+use Rattle.descriptor.proofs.Laws.{length_bytes}
 use Rattle.descriptor.proofs.Tests.{or_false}
 use Rattle.vmsa.specs.Limits.{Sized}
 use Rattle.vmsa.specs.Granules.{page_bits_of}
 use Rattle.geometry.specs.Geometry.{page_size, page_of}
-use Rattle.vmsa.specs.Answers.{Result, cacheable_in}
+use Rattle.vmsa.specs.Answers.{cacheable_in}
 use Rattle.vmsa.specs.declared.Regime.{Regime}
 use Rattle.vmsa.specs.declared.Access.{Access}
-use Rattle.vmsa.specs.declared.Leaf.{Leaf}
 use Rattle.refusals.specs.Tests.{sizes_bad, root_bad, roots_bad}
-use Rattle.checks.specs.Order.{first_before}
 use Rattle.checks.proofs.Accept.{sized, Rooted, rooted}
 use Rattle.lookup.specs.Trace.{End, fault, leaf, Trace}
 use Rattle.lookup.specs.Steps.{range_of}
 use Rattle.lookup.proofs.Page.{locate_page}
-use Rattle.decision.specs.Decision.{decision}
-use Rattle.walk.specs.Walk.{Outcome, pool_bytes, with_pool_bytes, applied, concluded, traced, walk_pool, revalued, kept_of, kept_at, kept_pool}
+use Rattle.walk.specs.Walk.{pool_bytes, with_pool_bytes, concluded, traced, walk_pool, revalued, kept_at, kept_pool}
 use Rattle.walk.proofs.Parts.{with_own, with_put, length_part}
 use Rattle.walk.proofs.Ends.{root_aligned, found}
-use Rattle.tlb.specs.Replies.{Reply, answered, reply_of, updates}
-use Rattle.tlb.specs.Walker.{Spot, lost, found as found_at, Walked, put_word, landed, walk_from, walked}
-use Rattle.tlb.specs.Ours.{usable, offset_of, spot_at, spot_of, located, judged, stamped, ours}
+use Rattle.tlb.specs.Replies.{answered, reply_of, updates}
+use Rattle.tlb.specs.Walker.{Walked, put_word, walk_from, walked}
+use Rattle.tlb.specs.Ours.{usable, offset_of, spot_at, located, judged, stamped, ours}
 use Rattle.tlb.proofs.Deciding.{reply_decision, update_decision, value_decision, cache_decision}
 
 -- ---- a usable regime

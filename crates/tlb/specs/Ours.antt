@@ -1,5 +1,5 @@
 -- Our walker: each part of a session's walker by the definitions that the plain walk's contracts cite.
-use Rattle.std.specs.Prelude.{ℕ, ◌+◌, ◌-◌, ◌*◌, List, length, Bool, true, false, not, ◌||◌}
+use Rattle.std.specs.Prelude.{ℕ, ◌+◌, ◌-◌, ◌*◌, List, length, Bool, false, not, ◌||◌}
 use Rattle.descriptor.specs.Bytes.{bytes_of}
 use Rattle.vmsa.specs.Granules.{page_bits_of}
 use Rattle.geometry.specs.Geometry.{page_size, page_of}
@@ -9,7 +9,6 @@ use Rattle.vmsa.specs.declared.Regime.{Regime}
 use Rattle.vmsa.specs.declared.Access.{Access}
 use Rattle.vmsa.specs.declared.Leaf.{Leaf}
 use Rattle.vmsa.specs.declared.FaultKind.TheVariants.{Translation}
-use Rattle.checks.specs.declared.Checked.{Checked}
 use Rattle.refusals.specs.Tests.{sizes_bad, roots_bad}
 use Rattle.checks.specs.Order.{first_of, memory_rows, setting_rows, access_rows, store_rows}
 use Rattle.lookup.specs.Trace.{End, fault, leaf, Trace}

@@ -1,5 +1,5 @@
 -- What a call of a session (RULES 10) hands back, with the count of reads apart.
-use Rattle.std.specs.Prelude.{ℕ, List, Bool, true, false, ◌||◌}
+use Rattle.std.specs.Prelude.{ℕ, List, Bool, false, ◌||◌}
 use Rattle.vmsa.specs.Answers.{Result, success, fault, refused as refused_with, number_of, dirtied_in}
 use Rattle.checks.specs.declared.Checked.{Checked}
 use Rattle.checks.specs.declared.Checked.TheVariants.{Accepted, Refused}

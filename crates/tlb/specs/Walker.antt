@@ -1,5 +1,5 @@
 -- A TLB entry (the customer's papers: a "place"), and what it and the walk answer an access (RULES 10.2 and 10.3), over any walker.
-use Rattle.std.specs.Prelude.{ℕ, ◌+◌, ◌%◌, Bool, true, false, List, [], ◌∷◌, ◌++◌, length, take, drop, eqb}
+use Rattle.std.specs.Prelude.{ℕ, ◌+◌, ◌%◌, false, List, ◌++◌, length, take, drop, eqb}
 use Rattle.std.proofs.Math.Option.{Option, none, some}
 use Rattle.descriptor.specs.Bits.{pick}
 use Rattle.vmsa.specs.Answers.{Result, fault, number_of, cacheable_in, dirtied_in}

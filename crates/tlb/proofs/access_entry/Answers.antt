@@ -1,10 +1,10 @@
 use mathlib.Core.Bool.{not}
 use mathlib.Core.Path.{sym, ap, ◌∙◌}
 use lib.ListN.{length}
-use borrow.Author.Tests.{eq-eqb, ne_eqb}
+use borrow.Author.Tests.{ne_eqb}
 use Rattle.vmsa.specs.Words.{regime_of}
 use Rattle.tlb.specs.Entries.{entry_view, filled_by}
-use Rattle.tlb.proofs.Access.{access_accepted, access_unset, access_set}
+use Rattle.tlb.proofs.Access.{access_accepted, access_set}
 use Rattle.tlb.proofs.access_entry.Goals as goal
 
 pub answer_entry-requires : goal.answer_entry-requires
