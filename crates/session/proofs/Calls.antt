@@ -13,7 +13,7 @@ use Rattle.descriptor.specs.Bits.{pick}
 use Rattle.descriptor.proofs.Tests.{or_false}
 use Rattle.descriptor.proofs.Laws.{put_part}
 use Rattle.vmsa.specs.Settings.{initial}
-use Rattle.vmsa.specs.Words.{flag, regime_of, regime_words}
+use Rattle.vmsa.specs.Words.{flag, regime_of}
 use Rattle.vmsa.specs.declared.Regime.{Regime}
 use Rattle.vmsa.specs.declared.RegimeWords.{RegimeWords}
 use Rattle.vmsa.specs.declared.Pool.{Pool}
@@ -28,7 +28,6 @@ use Rattle.checks.specs.Order.{memory_rows, setting_rows, store_rows, regime_che
 use Rattle.checks.proofs.Accept.{clear, pooled}
 use Rattle.walk.proofs.Parts.{length_part}
 use Rattle.harvest.specs.Harvest.{Harvested, harvested, harvest as harvest_over}
-use Rattle.tlb.specs.declared.Entry.{Entry as EntryStruct}
 use Rattle.tlb.specs.Replies.{Reply, Told, told, reply_to, refused}
 use Rattle.tlb.specs.Walker.{no_regime, Entry, empty, entry_of, Walked, put_word, access_in}
 use Rattle.tlb.specs.Ours.{offset_of, ours}
@@ -37,8 +36,8 @@ use Rattle.checks.proofs.Rows.{first_append}
 use Rattle.tlb.proofs.Walking.{put_is}
 use Rattle.tlb.proofs.Access.{kept_in, accessed_view, AnAnswer, answer_in, hit_is_access}
 use Rattle.session.specs.declared.Session.{Session as SessionStruct}
-use Rattle.session.specs.Model.{Session, Handed, handed, Stepped, keep, set_by, set_call, learn, access_with, access_call, store_by, store_in, Call, set_regime, access, store, drop_all, harvest, harvest_in, emptied_by, call}
-use Rattle.session.specs.View.{session_view, viewed, set_to, set_after, entry_in, with_entry, with_entries, accessed_session, emptied_after, harvest_of, harvest_leaves, leaves}
+use Rattle.session.specs.Model.{Session, handed, Stepped, keep, set_by, set_call, learn, access_with, access_call, store_by, store_in, Call, set_regime, access, store, drop_all, harvest, harvest_in, emptied_by, call}
+use Rattle.session.specs.View.{session_view, viewed, set_after, entry_in, with_entry, with_entries, accessed_session, emptied_after, harvest_of, harvest_leaves, leaves}
 use Rattle.descriptor.proofs.Lists.{set_same, map_set}
 
 -- ---- a set regime

@@ -4,7 +4,7 @@ use Prim.Native.Nat.{ℕ}
 use mathlib.Core.List.{List}
 use mathlib.Core.Path.{◌≡◌, refl, sym, ap, subst⁻¹, ◌∙◌}
 use contract.Lifetimes.{Lfts}
-use denote.Ref.{MutBor, at_last}
+use denote.Ref.{Bor, MutBor, at_last}
 use Rattle.descriptor.proofs.Tests.{clash}
 use Rattle.vmsa.specs.Answers.{number_of, view}
 use Rattle.vmsa.specs.declared.Regime.{Regime}
@@ -32,11 +32,13 @@ use Rattle.session.proofs.Session.harvest.Reads as Harvest
 pub empty_promise : (s : SessionStruct) → Empty.Learnt tt tt s tt → s ≡ empty_session
 empty_promise s h = h
 
-module _ (lives : Lfts 1) (s : SessionStruct) (memory : MutBor (List ℕ)) where
-  pub set_promise : (r : Regime) (after : List ℕ) (x : Changed) → SetRegime.Learnt lives (s, (memory, (r, tt))) x (s, (at_last memory after, (r, tt)))
-      → handed x.session after (reply_to x.reply) ≡ leaves s memory.now (set_regime r)
-  set_promise r after x h = h
+-- what lies behind a `&` has one value, before the call and after it
+module _ (lives : Lfts 1) (s : SessionStruct) (memory : Bor (List ℕ)) where
+  pub set_promise : (r : Regime) (x : Changed) → SetRegime.Learnt lives (s, (memory, (r, tt))) x (s, (memory, (r, tt)))
+      → handed x.session memory.now (reply_to x.reply) ≡ leaves s memory.now (set_regime r)
+  set_promise r x h = h
 
+module _ (lives : Lfts 1) (s : SessionStruct) (memory : MutBor (List ℕ)) where
   pub access_promise : (a : Access) (after : List ℕ) (x : Accessed) → AccessOf.Learnt lives (s, (memory, (a, tt))) x (s, (at_last memory after, (a, tt)))
       → handed x.session after (reply_of (view x.answer)) ≡ leaves s memory.now (access a)
   access_promise a after x h = h
@@ -75,11 +77,12 @@ changed_one m n x y e =
     let z : x ≡ y = λ i. record { session = (e i).session; reply = r i } in
     (z, ap (λ (t : Handed SessionStruct Reply). t.memory) e)
 
-module _ (lives : Lfts 1) (s : SessionStruct) (memory : MutBor (List ℕ)) where
-  pub set_one : (r : Regime) (m n : List ℕ) (x y : Changed) → SetRegime.Learnt lives (s, (memory, (r, tt))) x (s, (at_last memory m, (r, tt)))
-      → SetRegime.Learnt lives (s, (memory, (r, tt))) y (s, (at_last memory n, (r, tt))) → (x ≡ y) × (m ≡ n)
-  set_one r m n x y h k = changed_one m n x y (set_promise lives s memory r m x h ∙ sym (set_promise lives s memory r n y k))
+module _ (lives : Lfts 1) (s : SessionStruct) (memory : Bor (List ℕ)) where
+  pub set_one : (r : Regime) (x y : Changed) → SetRegime.Learnt lives (s, (memory, (r, tt))) x (s, (memory, (r, tt)))
+      → SetRegime.Learnt lives (s, (memory, (r, tt))) y (s, (memory, (r, tt))) → x ≡ y
+  set_one r x y h k = (changed_one memory.now memory.now x y (set_promise lives s memory r x h ∙ sym (set_promise lives s memory r y k))).0
 
+module _ (lives : Lfts 1) (s : SessionStruct) (memory : MutBor (List ℕ)) where
   pub access_one : (a : Access) (m n : List ℕ) (x y : Accessed) → AccessOf.Learnt lives (s, (memory, (a, tt))) x (s, (at_last memory m, (a, tt)))
       → AccessOf.Learnt lives (s, (memory, (a, tt))) y (s, (at_last memory n, (a, tt))) → (x ≡ y) × (m ≡ n)
   access_one a m n x y h k =
@@ -109,9 +112,6 @@ module _ (lives : Lfts 1) (s : SessionStruct) (memory : MutBor (List ℕ)) where
   pub empty_free : Empty.Asked tt tt
   empty_free = tt
 
-  pub set_free : (r : Regime) → SetRegime.Asked lives (s, (memory, (r, tt)))
-  set_free r = tt
-
   pub access_free : (a : Access) → AccessOf.Asked lives (s, (memory, (a, tt)))
   access_free a = tt
 
@@ -120,6 +120,9 @@ module _ (lives : Lfts 1) (s : SessionStruct) (memory : MutBor (List ℕ)) where
 
   pub drop_free : InvalidateAll.Asked tt (s, tt)
   drop_free = tt
+
+pub set_free : (lives : Lfts 1) (s : SessionStruct) (memory : Bor (List ℕ)) (r : Regime) → SetRegime.Asked lives (s, (memory, (r, tt)))
+set_free lives s memory r = tt
 
 pub harvest_free : (lives : Lfts 2) (s : SessionStruct) (memory : MutBor (List ℕ)) (first count : ℕ) (map : MutBor (List ℕ)) → Harvest.Asked lives (s, (memory, (first, (count, (map, tt)))))
 harvest_free lives s memory first count map = tt
