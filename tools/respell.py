@@ -48,6 +48,10 @@ def declared(text):
     return words, types
 
 
+# constructors and fields of specs/ that would fall together with a definition
+APART = {"set-regime": "regime_set", "fault-cacheable": "faults_cacheable"}
+
+
 def snake(name):
     name = re.sub(r"(?<=[a-z0-9])(?=[A-Z])", "_", name)
     return name.replace("-", "_").lower()
@@ -72,7 +76,7 @@ def table():
     for name in sorted(words, key=lambda n: (rank[n], "-" in n, n)):
         if not re.match(r"[a-z]", name):
             continue
-        new = snake(name)
+        new = APART.get(name, snake(name))
         while new in taken:
             new += "_lem"
         taken.add(new)

@@ -25,7 +25,7 @@ use Rattle.session.specs.View.{regime_held, leaves, harvest_leaves}
 use Rattle.session.proofs.Promises.{set_promise, access_promise, store_promise, drop_promise, harvest_promise, harvest_handed}
 use Rattle.calls.specs.Chains.{Event, event, Functions, Leaving, Calling, Chain, none_yet, more, regime_after, regime_from}
 use Rattle.calls.specs.Rule1.{rows_of, Reach, Rule1Event, Same, Rule1Call, EachCall, ManagedIn, Reaches, calls, replies, Rule1List, Rule1OfLists}
-use Rattle.calls.specs.Code.{Made, set_regime_lem, accessed, stored, dropped_all, harvested_pages, Rule1OfCall, Rule1OfCode, MapKeptOfCode}
+use Rattle.calls.specs.Code.{Made, regime_set, accessed, stored, dropped_all, harvested_pages, Rule1OfCall, Rule1OfCode, MapKeptOfCode}
 use Rattle.calls.proofs.Rule1.{rule_1_call, rule1_leaves}
 
 -- a call's reply, whose refusals are those of its rows
@@ -115,7 +115,7 @@ rule_1 s₀ m₀ s m past chain =
 -- ---- the functions of a session, by their own contracts
 
 made_is : {s : SessionStruct} {m : List ℕ} {c : Call} {x : Handed SessionStruct Reply} → Made s m c x → x ≡ leaves s m c
-made_is (set_regime_lem lives s memory r after x h) = set_promise lives s memory r after x h
+made_is (regime_set lives s memory r x h) = set_promise lives s memory r x h
 made_is (accessed lives s memory a after x h) = access_promise lives s memory a after x h
 made_is (stored lives s memory address value after x h) = store_promise lives s memory address value after x h
 made_is (dropped_all s after m h) = drop_promise s after h m

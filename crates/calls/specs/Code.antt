@@ -1,7 +1,7 @@
 -- Rule 1 (RULES 13) of the functions of a session, by value: each call by what the function's own contract tells its caller.
 use Rattle.std.specs.Prelude.{ℕ, List, ◌≡◌}
 use contract.Lifetimes.{Lfts}
-use denote.Ref.{MutBor, at_last}
+use denote.Ref.{Bor, MutBor, at_last}
 use Rattle.vmsa.specs.Answers.{view}
 use Rattle.vmsa.specs.declared.Regime.{Regime}
 use Rattle.vmsa.specs.declared.Access.{Access}
@@ -28,11 +28,11 @@ abbrev pub Begun : SessionStruct → Type 0
 Begun s = Empty.Learnt tt tt s tt
 
 -- one call: what it got, and what it left. `Learnt` is what the contract of the named function tells whoever called it with these
--- arguments, got this result, and finds its parameters so at the return
+-- arguments, got this result, and finds its parameters so at the return; what lies behind a `&` has one value, before the call and after it
 pub data Made : SessionStruct → List ℕ → Call → Handed SessionStruct Reply → Type 0 where
-  set_regime_lem : (lives : Lfts 1) (s : SessionStruct) (memory : MutBor (List ℕ)) (r : Regime) (after : List ℕ) (x : Changed)
-      → SetRegime.Learnt lives (s, (memory, (r, tt))) x (s, (at_last memory after, (r, tt)))
-      → Made s memory.now (set_regime r) (handed x.session after (reply_to x.reply))
+  regime_set : (lives : Lfts 1) (s : SessionStruct) (memory : Bor (List ℕ)) (r : Regime) (x : Changed)
+      → SetRegime.Learnt lives (s, (memory, (r, tt))) x (s, (memory, (r, tt)))
+      → Made s memory.now (set_regime r) (handed x.session memory.now (reply_to x.reply))
   accessed : (lives : Lfts 1) (s : SessionStruct) (memory : MutBor (List ℕ)) (a : Access) (after : List ℕ) (x : Accessed)
       → AccessOf.Learnt lives (s, (memory, (a, tt))) x (s, (at_last memory after, (a, tt)))
       → Made s memory.now (access a) (handed x.session after (reply_of (view x.answer)))

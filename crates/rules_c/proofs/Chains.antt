@@ -19,7 +19,7 @@ use Rattle.calls.proofs.Rule1.{rule1_leaves}
 use Rattle.calls.proofs.Lists.{rule1_list, map_kept_in}
 use Rattle.rule3.proofs.Final.{rule_3_of}
 use Rattle.rules_c.specs.Readings.{answer_reply, number_reply, harvest_read}
-use Rattle.rules_c.specs.Code.{MadeC, set_regime_lem, accessed, stored, dropped_all, harvested_pages, Rule1OfCallC, Rule1OfC, Rule3OfC, MapKeptOfC}
+use Rattle.rules_c.specs.Code.{MadeC, regime_set, accessed, stored, dropped_all, harvested_pages, Rule1OfCallC, Rule1OfC, Rule3OfC, MapKeptOfC}
 use Rattle.rules_c.proofs.Numbers.{access_read, set_read, store_read, harvest_read_lem}
 
 module _ (s : SessionStruct) (m : List ℕ) (c : Call) (s' : SessionStruct) (m' : List ℕ) where
@@ -52,7 +52,7 @@ module _ (s : SessionStruct) (m : List ℕ) (first count : ℕ) (map : List ℕ)
 
 -- any call of the C functions, by its own contract, leaves what `leaves` says
 pub made_is : {s : SessionStruct} {m : List ℕ} {c : Call} {x : Handed SessionStruct Reply} → MadeC s m c x → x ≡ leaves s m c
-made_is (set_regime_lem s m g s' m' n h) = by_number s m (set_regime (regime_of g)) s' m' n (set_read (session_view s) m (regime_of g)) h
+made_is (regime_set s m g s' m' n h) = by_number s m (set_regime (regime_of g)) s' m' n (set_read (session_view s) m (regime_of g)) h
 made_is (accessed s m a s' m' w h) = by_answer s m (access (access_of a)) s' m' w (access_read (session_view s) m (access_of a)) h
 made_is (stored s m address value s' m' n h) = by_number s m (store address value) s' m' n (store_read (session_view s) m address value) h
 made_is (dropped_all s s' m h) = ap (λ (t : SessionStruct). handed t m done) h

@@ -22,7 +22,7 @@ use Rattle.capi_session.proofs.Promises.{empty_clauses, empty_tells, set_clauses
 use Rattle.capi_harvest.specs.Says.{SessionHarvestSays}
 use Rattle.capi_harvest.proofs.Promises.{session_harvest_clauses, session_harvest_tells}
 use Rattle.rules_c.specs.Readings.{answer_reply, number_reply, harvest_read}
-use Rattle.rules_c.specs.Code.{MadeC, set_regime_lem, accessed, stored, dropped_all, harvested_pages}
+use Rattle.rules_c.specs.Code.{MadeC, regime_set, accessed, stored, dropped_all, harvested_pages}
 use Rattle.rules_c.specs.RulesC.{WalkRules}
 use Rattle.rules_c.proofs.Walks.{walk_rules}
 
@@ -49,7 +49,7 @@ pub set_makes : (W : LogicModel) (lives : Lfts 3) (session : MutBor SessionStruc
     (fact W.𝓤 (MadeC session.now memory.now (set_regime (regime_of regime.now)) (handed s' m' (number_reply n))))
 set_makes W lives session memory s' m' regime n =
     via W.𝓤 (fact W.𝓤 (SetSays session.now memory.now regime.now s' m' n)) (set_tells W lives session memory regime s' m' n)
-    (fact_mono W.𝓤 _ _ (λ h. set_regime_lem session.now memory.now regime.now s' m' n h))
+    (fact_mono W.𝓤 _ _ (λ h. regime_set session.now memory.now regime.now s' m' n h))
 
 pub store_makes : (W : LogicModel) (lives : Lfts 2) (session : MutBor SessionStruct) (memory : MutBor (List ℕ)) (address value : ℕ) (s' : SessionStruct) (m' : List ℕ) (n : ℕ)
     → ent W.𝓤 ((store_clauses W lives session memory address value).ensures tt n (at_last session s', (at_last memory m', (address, (value, tt)))))

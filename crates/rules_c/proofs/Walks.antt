@@ -86,7 +86,7 @@ module _ (m : List ℕ) (g : RegimeWords) (a : AccessWords) where
         probe = λ t b l. (rule2.marked R A m (success_in w) (succeeded t) b l).probe;
         accessed = λ t b l. (rule2.marked R A m (success_in w) (succeeded t) b l).accessed;
         cacheable = λ t b l. (rule2.marked R A m (success_in w) (succeeded t) b l).cacheable;
-        fault_cacheable_lem = λ t. rule2.fault_cacheable R A m (fault_in w) (of_fault w x refl t);
+        faults_cacheable = λ t. rule2.fault_cacheable R A m (fault_in w) (of_fault w x refl t);
         written = λ t b k l. rule2.written R A m (success_in w) (succeeded t) b k l;
         bare = λ h. let e = rule2.bare R A m h in (ap (λ (o : Outcome). words_of o.result) e, ap (λ (o : Outcome). o.bytes) e);
         sum = rule2.sum R A m;

@@ -17,7 +17,7 @@ use Rattle.rule3.specs.Code.{Rule3From}
 use Rattle.rules_c.specs.Readings.{answer_reply, number_reply, harvest_read}
 
 pub data MadeC : SessionStruct → List ℕ → Call → Handed SessionStruct Reply → Type 0 where
-  set_regime_lem : (s : SessionStruct) (m : List ℕ) (g : RegimeWords) (s' : SessionStruct) (m' : List ℕ) (n : ℕ) → SetSays s m g s' m' n
+  regime_set : (s : SessionStruct) (m : List ℕ) (g : RegimeWords) (s' : SessionStruct) (m' : List ℕ) (n : ℕ) → SetSays s m g s' m' n
       → MadeC s m (set_regime (regime_of g)) (handed s' m' (number_reply n))
   accessed : (s : SessionStruct) (m : List ℕ) (a : AccessWords) (s' : SessionStruct) (m' : List ℕ) (w : AnswerWords) → AccessSays s m a s' m' w
       → MadeC s m (access (access_of a)) (handed s' m' (answer_reply w))

@@ -87,7 +87,7 @@ module _ (m : List ℕ) (g : RegimeWords) (a : AccessWords) (m' : List ℕ) (w :
     pub orders : (h : RegimeWords) (n' : List ℕ) (x : AnswerWords) → regime_of h ≡ other_order R → WalkSays (swapped_pool R.pool m) h a n' x → (w ≡ x) × (n' ≡ swapped_pool R.pool m')
     -- a success may be remembered where AF is 1 afterwards; a fault, where a leaf with AF 1 was reached and step 7 or 8 failed
     pub cacheable : w.tag ≡ 0 → Bytes m → (l : LeafOf R A m) → flag w.cacheable ≡ af (desc R.ee m' (offset l))
-    pub fault_cacheable_lem : w.tag ≡ 1
+    pub faults_cacheable : w.tag ≡ 1
         → (flag w.cacheable ≡ true)
         ↔ ((l : LeafOf R A m) × (af l.value ≡ true) × (FirstFails (steps_of R A m) Alignment (level_of l.left) ⊎ FirstFails (steps_of R A m) Permission (level_of l.left)))
     -- the count of reads is the length of the list of descriptor addresses visited, and at most 4

@@ -11,11 +11,11 @@ use Rattle.calls.specs.Chains.{Leaving}
 use Rattle.calls.proofs.Rule1.{rule1_leaves}
 use Rattle.calls.proofs.Lists.{rule1_list, map_kept_leaves}
 use Rattle.rule3.proofs.Final.{begun_fresh, rule_3_of, rule_3_next_of}
-use Rattle.rules_lent.specs.Code.{MadeLent, set_regime_lem, accessed, stored, dropped_all, harvested_pages, Rule1OfCallLent, Rule1OfLent, Rule3OfLent, NextOfLent, MapKeptOfLent}
+use Rattle.rules_lent.specs.Code.{MadeLent, regime_set, accessed, stored, dropped_all, harvested_pages, Rule1OfCallLent, Rule1OfLent, Rule3OfLent, NextOfLent, MapKeptOfLent}
 
 -- any call of these functions, by its own contract, leaves what `leaves` says
 made_is : {s : SessionStruct} {m : List ℕ} {c : Call} {x : Handed SessionStruct Reply} → MadeLent s m c x → x ≡ leaves s m c
-made_is (set_regime_lem s m r s' m' x h) = h
+made_is (regime_set s m r s' m' x h) = h
 made_is (accessed s m a s' m' x h) = h
 made_is (stored s m address value s' m' x h) = h
 made_is (dropped_all s s' m h) = ap (λ (t : SessionStruct). handed t m done) h

@@ -18,7 +18,7 @@ use Rattle.session.specs.declared.Session.{Session as SessionStruct}
 use Rattle.session.specs.Model.{handed, set_regime, access, store, drop_all, harvest}
 use Rattle.lent.specs.Says.{SetSays, AccessSays, StoreSays, DropSays, HarvestSays}
 use Rattle.lent.proofs.Promises.{set_clauses, set_tells, access_clauses, access_tells, store_clauses, store_tells, drop_clauses, drop_tells, harvest_clauses, harvest_tells}
-use Rattle.rules_lent.specs.Code.{MadeLent, set_regime_lem, accessed, stored, dropped_all, harvested_pages}
+use Rattle.rules_lent.specs.Code.{MadeLent, regime_set, accessed, stored, dropped_all, harvested_pages}
 
 module _ (W : LogicModel) (lives : Lfts 2) (session : MutBor SessionStruct) (memory : MutBor (List ℕ)) (s' : SessionStruct) (m' : List ℕ) where
   pub set_makes : (r : Regime) (x : Checked)
@@ -26,7 +26,7 @@ module _ (W : LogicModel) (lives : Lfts 2) (session : MutBor SessionStruct) (mem
       (fact W.𝓤 (MadeLent session.now memory.now (set_regime r) (handed s' m' (reply_to x))))
   set_makes r x =
       via W.𝓤 (fact W.𝓤 (SetSays session.now memory.now r s' m' x)) (set_tells W lives session memory r s' m' x)
-      (fact_mono W.𝓤 _ _ (λ h. set_regime_lem session.now memory.now r s' m' x h))
+      (fact_mono W.𝓤 _ _ (λ h. regime_set session.now memory.now r s' m' x h))
 
   pub access_makes : (a : Access) (x : Answer)
       → ent W.𝓤 ((access_clauses W lives session memory a).ensures tt x (at_last session s', (at_last memory m', (a, tt))))

@@ -19,7 +19,7 @@ use Rattle.calls.specs.Code.{Begun}
 use Rattle.rule3.specs.Code.{Rule3From, NextFrom}
 
 pub data MadeLent : SessionStruct → List ℕ → Call → Handed SessionStruct Reply → Type 0 where
-  set_regime_lem : (s : SessionStruct) (m : List ℕ) (r : Regime) (s' : SessionStruct) (m' : List ℕ) (x : Checked) → SetSays s m r s' m' x
+  regime_set : (s : SessionStruct) (m : List ℕ) (r : Regime) (s' : SessionStruct) (m' : List ℕ) (x : Checked) → SetSays s m r s' m' x
       → MadeLent s m (set_regime r) (handed s' m' (reply_to x))
   accessed : (s : SessionStruct) (m : List ℕ) (a : Access) (s' : SessionStruct) (m' : List ℕ) (x : Answer) → AccessSays s m a s' m' x
       → MadeLent s m (access a) (handed s' m' (reply_of (view x)))
