@@ -77,7 +77,7 @@ module _ (W : Walker) (L : Lawful W) where
   put_bytes : (R : Regime) (m : List ℕ) (at v : ℕ) → Bytes m → Bytes (put_word W R m at v)
   unfolding put_word
   put_bytes R m at v h =
-      bytes_append (take at m ++ word R v) (drop (at + length (word R v)) m) (bytes_append (take at m) (word R v) (bytes_take m at h) (L.word_Bytes R v))
+      bytes_append (take at m ++ word R v) (drop (at + length (word R v)) m) (bytes_append (take at m) (word R v) (bytes_take m at h) (L.word_bytes R v))
       (bytes_drop m (at + length (word R v)) h)
 
   if_bytes : (b : Bool) (R : Regime) (m : List ℕ) (at v : ℕ) → Bytes m → Bytes (pick b (put_word W R m at v) m)
@@ -515,7 +515,7 @@ module _ (W : Walker) (L : Lawful W) where
             same f =
                 let e : plainly W R m a ≡ told_of (landed W R m f.at f.leaf f.count x) =
                 plain_is m Accepted y ∙ ap (λ (l : Spot). told_of (walk_from W R m a l)) f.here
-                ∙ ap (λ (o : Result). told_of (landed W R m f.at f.leaf f.count o)) (L.Agree-same R h f.leaf a f.agree hd)
+                ∙ ap (λ (o : Result). told_of (landed W R m f.at f.leaf f.count o)) (L.agree_same R h f.leaf a f.agree hd)
                 in
                 record {
                   same = sym (ap (λ (w : Told Reply). uncounted w.reply) e);
