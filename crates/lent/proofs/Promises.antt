@@ -1,13 +1,12 @@
 -- What each function promises, from its own contract: `..-tells`, that its ensures clause says what specs/Says.antt has, at every model of the
--- logic; `..-free`, that its requires clause asks nothing. A contract that says less breaks a law here. (The functions are proved by hand, so
--- there is no `Learnt` to name, as there is for those by value.)
+-- logic; `..-free`, that its requires clause asks nothing. A contract that says less breaks a law here.
 use Prim.Native.Nat.{ℕ}
 use mathlib.Core.List.{List}
 use mathlib.Core.Path.{◌≡◌, sym, ap, subst⁻¹, ◌∙◌}
 use base.Logic.{ent, emp, id⊢}
 use contract.Lifetimes.{Lfts}
 use contract.Monad.{fact}
-use denote.Ref.{MutBor, at_last}
+use denote.Ref.{Bor, MutBor, at_last}
 use denote.Triple.Clauses.{ClausesAt}
 use borrow.Fn.World.{World as LogicModel}
 use Rattle.vmsa.specs.Answers.{view}
@@ -31,18 +30,19 @@ use Rattle.lent.specs.contracts.store as Store
 use Rattle.lent.specs.contracts.invalidate_all as InvalidateAll
 use Rattle.lent.specs.contracts.harvest as Harvest
 
+-- what lies behind a `&` has one value, before the call and after it
+module _ (W : LogicModel) (lives : Lfts 2) (session : MutBor SessionStruct) (memory : Bor (List ℕ)) (r : Regime) where
+  abbrev pub set_clauses : ClausesAt W.𝓤 SetRegime.ended lives
+  set_clauses = SetRegime.clauses W.𝓛 W.𝓜.mem W.𝓡.run lives (session, (memory, (r, tt)))
+
+  pub set_tells : (session' : SessionStruct) (x : Checked)
+      → ent W.𝓤 (set_clauses.ensures tt x (at_last session session', (memory, (r, tt)))) (fact W.𝓤 (SetSays session.now memory.now r session' memory.now x))
+  set_tells session' x = id⊢ W.𝓤 _
+
+  pub set_free : ent W.𝓤 (emp W.𝓤) (set_clauses.requires tt)
+  set_free = id⊢ W.𝓤 _
+
 module _ (W : LogicModel) (lives : Lfts 2) (session : MutBor SessionStruct) (memory : MutBor (List ℕ)) where
-  module _ (r : Regime) where
-    abbrev pub set_clauses : ClausesAt W.𝓤 SetRegime.ended lives
-    set_clauses = SetRegime.clauses W.𝓛 W.𝓜.mem W.𝓡.run lives (session, (memory, (r, tt)))
-
-    pub set_tells : (session' : SessionStruct) (memory' : List ℕ) (x : Checked)
-        → ent W.𝓤 (set_clauses.ensures tt x (at_last session session', (at_last memory memory', (r, tt)))) (fact W.𝓤 (SetSays session.now memory.now r session' memory' x))
-    set_tells session' memory' x = id⊢ W.𝓤 _
-
-    pub set_free : ent W.𝓤 (emp W.𝓤) (set_clauses.requires tt)
-    set_free = id⊢ W.𝓤 _
-
   module _ (a : Access) where
     abbrev pub access_clauses : ClausesAt W.𝓤 AccessOf.ended lives
     access_clauses = AccessOf.clauses W.𝓛 W.𝓜.mem W.𝓡.run lives (session, (memory, (a, tt)))

@@ -1,4 +1,4 @@
--- The lent session as a whole, out of its borrow and back: what the walks of this crate share.
+-- The lent session as a whole, out of its borrow and back: what walks by hand of this crate share.
 --     sval s, IsSession s      the machine value of the session s, and that it is one
 --     Borrow r s               what the `&mut Session` r owns, at the session s
 --     Cell r s, Open r         once it is open: the session's cell, with s in it, and the borrow
@@ -11,7 +11,7 @@ use mathlib.Core.Path.{◌≡◌, refl, sym, subst}
 use Prim.Native.Nat.{ℕ, zero, suc}
 use mathlib.Core.List.{List, [], ◌∷◌}
 use seplogic.Ra.Ura.{Ura}
-use seplogic.Ra.TreeShare.{full_share}
+use base.Fraction.{full_share}
 use lib.Dec.{T}
 use mir.Syntax.{Ty, Body, Opd as Operand, named, place, deref, copy, rv_opd, assign, seq}
 use mir.Val.{Val, WT, has_ty, vptr}
@@ -46,7 +46,7 @@ module _ (κ : Lft) (q : Share) (r : MutBor Session) where
   Borrow s = mutable.Lent S.the_type S'.the_laws r.ref_ptr.0 r.ref_ptr.1 (named 0) κ r.ghost_name s
 
   abbrev pub Cell : Session → Fml
-  Cell s = mutable.Cell S.the_type S'.the_laws r.ptr.0 r.ptr.1 (sval s)
+  Cell s = mutable.Cell S.the_type S'.the_laws r.ref_ptr.0 r.ref_ptr.1 (sval s)
 
   abbrev pub Open : Fml
   Open = mutable.Open S.the_type S'.the_laws r.ref_ptr.0 r.ref_ptr.1 κ q r.ghost_name r.now
@@ -55,7 +55,7 @@ module _ (κ : Lft) (q : Share) (r : MutBor Session) where
     -- the local i, at entry p, is room for a session
     open 𝓛 use {H}
 
-    pub taken : K → {i : ℕ} (n p : ℕ) → nth 𝓛 n Γ ≡ ‵ (fat full_share (spot_of 𝓤 H E 1).0 (spot_of 𝓤 H E 1).1 zero (vptr r.ptr.0 r.ptr.1))
+    pub taken : K → {i : ℕ} (n p : ℕ) → nth 𝓛 n Γ ≡ ‵ (fat full_share (spot_of 𝓤 H E 1).0 (spot_of 𝓤 H E 1).1 zero (vptr r.ref_ptr.0 r.ref_ptr.1))
         → nth 𝓛 p Γ ≡ ‵ (froom (spot_of 𝓤 H E i).0 (spot_of 𝓤 H E i).1 zero) → (spot_of 𝓤 H E i).0 ≡ S'.mir
         → (IsSession r.now → Seq K 𝓛 (‵ ((S.the_row).own_val r.now (sval r.now ∷ [])) ∷ ‵ (Cell r.now) ∷ ‵ Open ∷ put 𝓛 p (‵ (fat full_share (spot_of 𝓤 H E i).0 (spot_of 𝓤 H E i).1 zero (sval r.now))) Γ) (runs C Λ E rest post))
         → Seq K 𝓛 (‵ (Borrow r.now) ∷ ‵ (flft κ q) ∷ Γ) (runs C Λ E (seq (assign (place i []) (rv_opd (copy (place 1 (deref S'.mir ∷ []))))) rest) post)
@@ -63,7 +63,7 @@ module _ (κ : Lft) (q : Share) (r : MutBor Session) where
         sets t (of_opd t (load t (from t (hop t (look t (suc (suc (suc n))) ref) (stop t))) (look_raw t 1 refl))) (suc (suc (suc p))) room
         (subst (λ (τ : Ty). T (has_ty τ (sval r.now)) × WT (sval r.now)) (sym e) (typed 𝓛 r.now is)) $ k is)
 
-    pub put_back : K → {x : Operand} (n : ℕ) (s : Session) → IsSession s → nth 𝓛 n Γ ≡ ‵ (fat full_share (spot_of 𝓤 H E 1).0 (spot_of 𝓤 H E 1).1 zero (vptr r.ptr.0 r.ptr.1))
+    pub put_back : K → {x : Operand} (n : ℕ) (s : Session) → IsSession s → nth 𝓛 n Γ ≡ ‵ (fat full_share (spot_of 𝓤 H E 1).0 (spot_of 𝓤 H E 1).1 zero (vptr r.ref_ptr.0 r.ref_ptr.1))
         → Opd K 𝓛 (‵ (Cell r.now) ∷ ‵ Open ∷ Γ) E x (sval s)
         → Step K 𝓛 (‵ (Borrow s) ∷ ‵ (flft κ q) ∷ Γ) (runs C Λ E rest post) (‵ (Cell r.now) ∷ ‵ Open ∷ Γ) (runs C Λ E (seq (assign (place 1 (deref S'.mir ∷ [])) (rv_opd x)) rest) post)
     put_back t n s is ref x = step (λ k.
