@@ -5,7 +5,7 @@ use mathlib.Core.List.{List}
 use base.Logic.{ent, via}
 use contract.Lifetimes.{Lfts}
 use contract.Monad.{fact, fact_mono}
-use denote.Ref.{MutBor, at_last}
+use denote.Ref.{Bor, MutBor, at_last}
 use borrow.Fn.World.{World as LogicModel}
 use Rattle.vmsa.specs.Answers.{view}
 use Rattle.vmsa.specs.declared.Regime.{Regime}
@@ -20,14 +20,15 @@ use Rattle.lent.specs.Says.{SetSays, AccessSays, StoreSays, DropSays, HarvestSay
 use Rattle.lent.proofs.Promises.{set_clauses, set_tells, access_clauses, access_tells, store_clauses, store_tells, drop_clauses, drop_tells, harvest_clauses, harvest_tells}
 use Rattle.rules_lent.specs.Code.{MadeLent, regime_set, accessed, stored, dropped_all, harvested_pages}
 
-module _ (W : LogicModel) (lives : Lfts 2) (session : MutBor SessionStruct) (memory : MutBor (List ℕ)) (s' : SessionStruct) (m' : List ℕ) where
-  pub set_makes : (r : Regime) (x : Checked)
-      → ent W.𝓤 ((set_clauses W lives session memory r).ensures tt x (at_last session s', (at_last memory m', (r, tt))))
-      (fact W.𝓤 (MadeLent session.now memory.now (set_regime r) (handed s' m' (reply_to x))))
-  set_makes r x =
-      via W.𝓤 (fact W.𝓤 (SetSays session.now memory.now r s' m' x)) (set_tells W lives session memory r s' m' x)
-      (fact_mono W.𝓤 _ _ (λ h. regime_set session.now memory.now r s' m' x h))
+-- what lies behind a `&` has one value, before the call and after it
+pub set_makes : (W : LogicModel) (lives : Lfts 2) (session : MutBor SessionStruct) (memory : Bor (List ℕ)) (s' : SessionStruct) (r : Regime) (x : Checked)
+    → ent W.𝓤 ((set_clauses W lives session memory r).ensures tt x (at_last session s', (memory, (r, tt))))
+    (fact W.𝓤 (MadeLent session.now memory.now (set_regime r) (handed s' memory.now (reply_to x))))
+set_makes W lives session memory s' r x =
+    via W.𝓤 (fact W.𝓤 (SetSays session.now memory.now r s' memory.now x)) (set_tells W lives session memory r s' x)
+    (fact_mono W.𝓤 _ _ (λ h. regime_set session.now memory.now r s' memory.now x h))
 
+module _ (W : LogicModel) (lives : Lfts 2) (session : MutBor SessionStruct) (memory : MutBor (List ℕ)) (s' : SessionStruct) (m' : List ℕ) where
   pub access_makes : (a : Access) (x : Answer)
       → ent W.𝓤 ((access_clauses W lives session memory a).ensures tt x (at_last session s', (at_last memory m', (a, tt))))
       (fact W.𝓤 (MadeLent session.now memory.now (access a) (handed s' m' (reply_of (view x)))))
