@@ -1,0 +1,30 @@
+// The static library of capi_stepwise: its functions, exported to C with their contracts.
+#![tactic(auto)]
+
+ghost use Rattle.std.specs.Prelude.{◌≡◌};
+ghost use Rattle.lookup.specs.declared.Word.TheVariants.{Unreachable};
+ghost use Rattle.step_words.specs.Words.{start_words, offer_words, offer_gives};
+
+use step_words::StepwiseWords;
+use vmsa::RegimeWords;
+use words::AccessWords;
+
+// Starts a walk: the lent struct is written, and holds the address of the descriptor that is wanted, or the end.
+#[unsafe(no_mangle)]
+pub extern "C" fn vmsa_stepwise_start(
+    regime: &RegimeWords,
+    access: &AccessWords,
+    walk: &mut StepwiseWords,
+)
+    ensures { walk.new ≡ start_words regime.now access.now }
+{
+    capi_stepwise::vmsa_stepwise_start(regime, access, walk);
+}
+
+// Says that the descriptor that the lent walk wants is not reachable: 0, or 12 after the end.
+#[unsafe(no_mangle)]
+pub extern "C" fn vmsa_stepwise_unreachable(walk: &mut StepwiseWords) -> u8
+    ensures { offer_gives result walk.new ≡ offer_words walk.old Unreachable }
+{
+    capi_stepwise::vmsa_stepwise_unreachable(walk)
+}
