@@ -8,8 +8,8 @@ ghost use Rattle.cases.specs.Cases.{base as base_of, worked_pool, eight as eight
 ghost use Rattle.worked.specs.Room.{Roomy};
 
 use checks::Checked;
-use libc::STDOUT_FILENO;
 use session::Session;
+use std::io;
 use vmsa::{
     Access, AccessKind, Answer, Fault, Granule, PhysAddr, Pool, Range, Refusal, Regime, Success,
     VirtAddr,
@@ -109,94 +109,73 @@ fn fill(memory: &mut [u8], third: u64, leaf: u64, ee: bool)
 
 // ---- what is printed
 
-fn print(text: &[u8]) {
-    io::write_all(STDOUT_FILENO, text);
-}
-
-fn print_decimal(x: u64) {
-    io::print_decimal(STDOUT_FILENO, x);
-}
-
-// All 16 digits.
-fn print_hex(x: u64) {
-    io::print_hex(STDOUT_FILENO, x, 16);
-}
-
-// The two digits of a byte, after a blank.
-fn print_byte(x: u8) {
-    print(b" ");
-    io::print_hex(STDOUT_FILENO, x as u64, 2);
-}
-
-fn print_if(holds: bool, text: &[u8]) {
+fn print_if(rt: &impl Print, holds: bool, text: &str) -> io::Result<()> {
     if holds {
-        print(text);
+        print!(rt; "{text}")?;
     }
+    Ok(())
 }
 
-fn print_leaf(leaf: u64) {
-    print(b" leaf ");
-    print_hex(leaf);
+fn print_leaf(rt: &impl Print, leaf: u64) -> io::Result<()> {
+    print!(rt; " leaf {leaf:016x}")
 }
 
-fn print_reads(reads: u8, leaf: u64) {
-    print(b" reads ");
-    print_decimal(reads as u64);
-    print_leaf(leaf);
+fn print_reads(rt: &impl Print, reads: u8, leaf: u64) -> io::Result<()> {
+    print!(rt; " reads {reads}")?;
+    print_leaf(rt, leaf)
 }
 
-fn print_success(s: Success, leaf: u64) {
-    print(b" ok ");
-    print_hex(s.output.0);
-    print_reads(s.reads, leaf);
-    print_if(s.accessed, b" accessed");
-    print_if(s.dirtied, b" dirtied");
-    print_if(s.cacheable, b" cacheable");
+fn print_success(rt: &impl Print, s: Success, leaf: u64) -> io::Result<()> {
+    let output = s.output.0;
+    print!(rt; " ok {output:016x}")?;
+    print_reads(rt, s.reads, leaf)?;
+    print_if(rt, s.accessed, " accessed")?;
+    print_if(rt, s.dirtied, " dirtied")?;
+    print_if(rt, s.cacheable, " cacheable")
 }
 
-fn print_fault(f: Fault, leaf: u64) {
-    print(b" fault ");
-    print_decimal(f.code() as u64);
-    print_reads(f.reads, leaf);
-    print_if(f.cacheable, b" cacheable");
+fn print_fault(rt: &impl Print, f: Fault, leaf: u64) -> io::Result<()> {
+    let code = f.code();
+    print!(rt; " fault {code}")?;
+    print_reads(rt, f.reads, leaf)?;
+    print_if(rt, f.cacheable, " cacheable")
 }
 
-fn print_refusal(x: Refusal) {
-    print(b" refused ");
-    print_decimal(x.number() as u64);
+fn print_refusal(rt: &impl Print, x: Refusal) -> io::Result<()> {
+    let number = x.number();
+    print!(rt; " refused {number}")
 }
 
 // An answer to the end of its line.
-fn print_answer(answer: Answer, leaf: u64) {
+fn print_answer(rt: &impl Print, answer: Answer, leaf: u64) -> io::Result<()> {
     match answer {
-        Answer::Success(s) => print_success(s, leaf),
-        Answer::Fault(f) => print_fault(f, leaf),
-        Answer::Refused(x) => print_refusal(x),
+        Answer::Success(s) => print_success(rt, s, leaf)?,
+        Answer::Fault(f) => print_fault(rt, f, leaf)?,
+        Answer::Refused(x) => print_refusal(rt, x)?,
     }
-    print(b"\n");
+    println!(rt; "")
 }
 
-fn print_map(map: [u8; MAP], leaf: u64) {
-    print(b" map");
-    print_byte(map[0]);
-    print_byte(map[1]);
-    print_leaf(leaf);
+fn print_map(rt: &impl Print, map: [u8; MAP], leaf: u64) -> io::Result<()> {
+    let first = map[0];
+    let second = map[1];
+    print!(rt; " map {first:02x} {second:02x}")?;
+    print_leaf(rt, leaf)
 }
 
 // What a harvest hands back, to the end of its line.
-fn print_harvest(reply: Checked, map: [u8; MAP], leaf: u64) {
+fn print_harvest(rt: &impl Print, reply: Checked, map: [u8; MAP], leaf: u64) -> io::Result<()> {
     match reply {
-        Checked::Accepted => print_map(map, leaf),
-        Checked::Refused(x) => print_refusal(x),
+        Checked::Accepted => print_map(rt, map, leaf)?,
+        Checked::Refused(x) => print_refusal(rt, x)?,
     }
-    print(b"\n");
+    println!(rt; "")
 }
 
 // The line of case P number.
-fn print_line(number: u64, answer: Answer, leaf: u64) {
-    print(b"P");
-    print_decimal(number);
-    print_answer(answer, leaf);
+fn print_line(rt: &impl Print, number: u64, answer: Answer, leaf: u64) -> io::Result<()> {
+    print!(rt; "P{number}")?;
+    print_answer(rt, answer, leaf)
 }
 
 // ---- the cases
@@ -211,55 +190,75 @@ fn walk_filled(memory: &mut [u8], r: Regime, a: Access, third: u64, leaf: u64) -
 }
 
 // Runs case P number in this memory.
-fn run_in(memory: &mut [u8], number: u64, r: Regime, a: Access, third: u64, leaf: u64)
+fn run_in(
+    rt: &impl Print,
+    memory: &mut [u8],
+    number: u64,
+    r: Regime,
+    a: Access,
+    third: u64,
+    leaf: u64,
+) -> io::Result<()>
     requires { Roomy memory.old }
 {
     let answer = walk_filled(memory, r, a, third, leaf);
-    print_line(number, answer, descriptor::load(memory, LEAF_OFFSET, r.ee));
+    print_line(
+        rt,
+        number,
+        answer,
+        descriptor::load(memory, LEAF_OFFSET, r.ee),
+    )
 }
 
 // Runs it in a memory of zeros that is exactly the pool.
-fn run(number: u64, r: Regime, a: Access, third: u64, leaf: u64) {
+fn run(
+    rt: &impl Print,
+    number: u64,
+    r: Regime,
+    a: Access,
+    third: u64,
+    leaf: u64,
+) -> io::Result<()> {
     let mut memory = [0u8; LENGTH];
-    run_in(&mut memory, number, r, a, third, leaf);
+    run_in(rt, &mut memory, number, r, a, third, leaf)
 }
 
 // Runs P2, and prints the bytes of the leaf's descriptor from the lowest offset on: as a number they are big-endian.
-fn run_bytes(memory: &mut [u8; LENGTH], r: Regime, a: Access) {
+fn run_bytes(rt: &impl Print, memory: &mut [u8; LENGTH], r: Regime, a: Access) -> io::Result<()> {
     walk_filled(memory, r, a, THIRD, LEAF);
-    print(b"P2 leaves the bytes ");
-    print_hex(descriptor::load(memory, LEAF_OFFSET, true));
-    print(b"\n");
+    let bytes = descriptor::load(memory, LEAF_OFFSET, true);
+    println!(rt; "P2 leaves the bytes {bytes:016x}")
 }
 
 // Runs P12 in one memory with the longest pool, and with one page more. (If main made it a slice, the prover would write out all its bytes.)
-fn run_long(memory: &mut [u8; TOO_LONG], a: Access) {
-    run_in(memory, 12, base(LONGEST), a, THIRD, LEAF);
-    run_in(memory, 12, base(TOO_LONG), a, THIRD, LEAF);
+fn run_long(rt: &impl Print, memory: &mut [u8; TOO_LONG], a: Access) -> io::Result<()> {
+    run_in(rt, memory, 12, base(LONGEST), a, THIRD, LEAF)?;
+    run_in(rt, memory, 12, base(TOO_LONG), a, THIRD, LEAF)
 }
 
 // ---- granules
 
 // An access in a session, and its line, with the leaf descriptor at an offset.
 fn step_at(
+    rt: &impl Print,
     session: Session,
     memory: &mut [u8; LENGTH],
-    text: &[u8],
+    text: &str,
     a: Access,
     leaf: usize,
-) -> Session
+) -> io::Result<Session>
     requires { leaf + 8 ≤ 65536 }
 {
     let x = session.access(memory, a);
     let after = x.session;
     let answer = x.answer;
-    print(text);
-    print_answer(answer, descriptor::load(memory, leaf, false));
-    after
+    print!(rt; "{text}")?;
+    print_answer(rt, answer, descriptor::load(memory, leaf, false))?;
+    Ok(after)
 }
 
 // A read through four tables of 16 KiB, and one of the same page across a multiple of 4,096. The table addresses are cut at bit 14.
-fn run_kib16(memory: &mut [u8; LENGTH], r: Regime) {
+fn run_kib16(rt: &impl Print, memory: &mut [u8; LENGTH], r: Regime) -> io::Result<()> {
     descriptor::store(memory, 0x0008, 0x40007003, false);
     descriptor::store(memory, 0x6028, 0x4000B003, false);
     descriptor::store(memory, 0xA030, 0x4000F003, false);
@@ -267,12 +266,13 @@ fn run_kib16(memory: &mut [u8; LENGTH], r: Regime) {
     let set = Session::empty().set_regime(memory, r.with_granule(Granule::Kib16));
     let read = access(0xC0580D01DABC, 4, AccessKind::Read);
     let across = access(0xC0580D01EFFD, 4, AccessKind::Read);
-    let s1 = step_at(set.session, memory, b"16 KiB:", read, 0xE038);
-    step_at(s1, memory, b"16 KiB, the same page:", across, 0xE038);
+    let s1 = step_at(rt, set.session, memory, "16 KiB:", read, 0xE038)?;
+    step_at(rt, s1, memory, "16 KiB, the same page:", across, 0xE038)?;
+    Ok(())
 }
 
 // The same through one table of 64 KiB, the first level being the last.
-fn run_kib64(memory: &mut [u8; LENGTH], r: Regime) {
+fn run_kib64(rt: &impl Print, memory: &mut [u8; LENGTH], r: Regime) -> io::Result<()> {
     descriptor::store(memory, 0x8030, 0x000800008001F3C3, false);
     let range = Range {
         root: PhysAddr(POOL_ADDRESS),
@@ -284,93 +284,126 @@ fn run_kib64(memory: &mut [u8; LENGTH], r: Regime) {
     let set = Session::empty().set_regime(memory, granuled);
     let read = access(0x10065ABC, 4, AccessKind::Read);
     let across = access(0x10067FFD, 4, AccessKind::Read);
-    let s1 = step_at(set.session, memory, b"64 KiB:", read, 0x8030);
-    step_at(s1, memory, b"64 KiB, the same page:", across, 0x8030);
+    let s1 = step_at(rt, set.session, memory, "64 KiB:", read, 0x8030)?;
+    step_at(rt, s1, memory, "64 KiB, the same page:", across, 0x8030)?;
+    Ok(())
 }
 
 // ---- a session
 
 // One with the leaf of the worked cases.
-fn step(session: Session, memory: &mut [u8; LENGTH], text: &[u8], a: Access) -> Session {
-    step_at(session, memory, text, a, LEAF_OFFSET)
+fn step(
+    rt: &impl Print,
+    session: Session,
+    memory: &mut [u8; LENGTH],
+    text: &str,
+    a: Access,
+) -> io::Result<Session> {
+    step_at(rt, session, memory, text, a, LEAF_OFFSET)
 }
 
 // A harvest into a map whose bits are all set, and its line.
-fn harvest_step(session: Session, memory: &mut [u8; LENGTH], text: &[u8], count: u64) -> Session {
+fn harvest_step(
+    rt: &impl Print,
+    session: Session,
+    memory: &mut [u8; LENGTH],
+    text: &str,
+    count: u64,
+) -> io::Result<Session> {
     let mut map = [0xFFu8; MAP];
     let x = session.harvest(memory, FIRST_PAGE, count, &mut map);
     let after = x.session;
     let reply = x.reply;
-    print(text);
-    print_harvest(reply, map, descriptor::load(memory, LEAF_OFFSET, false));
-    after
+    print!(rt; "{text}")?;
+    print_harvest(rt, reply, map, descriptor::load(memory, LEAF_OFFSET, false))?;
+    Ok(after)
 }
 
 // Harvests of a dirty page: it is reported once, and again after the next write, which walks. A refused one keeps what is remembered.
-fn run_harvests(dirty: Session, memory: &mut [u8; LENGTH], write: Access) -> Session {
-    let s1 = harvest_step(dirty, memory, b"harvest:", 8);
-    let s2 = harvest_step(s1, memory, b"harvest again:", 8);
-    let s3 = step(s2, memory, b"write after a harvest:", write);
-    harvest_step(s3, memory, b"harvest of no pages:", 0)
+fn run_harvests(
+    rt: &impl Print,
+    dirty: Session,
+    memory: &mut [u8; LENGTH],
+    write: Access,
+) -> io::Result<Session> {
+    let s1 = harvest_step(rt, dirty, memory, "harvest:", 8)?;
+    let s2 = harvest_step(rt, s1, memory, "harvest again:", 8)?;
+    let s3 = step(rt, s2, memory, "write after a harvest:", write)?;
+    harvest_step(rt, s3, memory, "harvest of no pages:", 0)
 }
 
 // The session of the README: a miss, hits, the first write, harvests, a store without and with a drop.
-fn run_session(memory: &mut [u8; LENGTH], r: Regime) {
+fn run_session(rt: &impl Print, memory: &mut [u8; LENGTH], r: Regime) -> io::Result<()> {
     let read = usual(AccessKind::Read);
     let write = usual(AccessKind::Write);
     fill(memory, THIRD, LEAF, false);
-    let s0 = step(Session::empty(), memory, b"no regime:", read);
+    let s0 = step(rt, Session::empty(), memory, "no regime:", read)?;
     let set = s0.set_regime(memory, r);
     let s1 = set.session;
-    let s2 = step(s1, memory, b"first read:", read);
-    let s3 = step(s2, memory, b"second read:", read);
-    let s4 = step(s3, memory, b"first write:", write);
-    let s5 = step(s4, memory, b"second write:", write);
-    let s6 = run_harvests(s5, memory, write);
+    let s2 = step(rt, s1, memory, "first read:", read)?;
+    let s3 = step(rt, s2, memory, "second read:", read)?;
+    let s4 = step(rt, s3, memory, "first write:", write)?;
+    let s5 = step(rt, s4, memory, "second write:", write)?;
+    let s6 = run_harvests(rt, s5, memory, write)?;
     let gone = s6.store(memory, PhysAddr(LEAF_ADDRESS), 0);
     let s7 = gone.session;
-    let s8 = step(s7, memory, b"after a store:", read);
-    let s9 = step(s8.invalidate_all(), memory, b"after a drop:", read);
-    step(s9, memory, b"and again:", read);
+    let s8 = step(rt, s7, memory, "after a store:", read)?;
+    let s9 = step(rt, s8.invalidate_all(), memory, "after a drop:", read)?;
+    step(rt, s9, memory, "and again:", read)?;
+    Ok(())
 }
 
-fn main() {
+fn main(rt: HostRuntime) -> io::Result<()> {
     let r = base(LENGTH);
     let read = usual(AccessKind::Read);
     let write = usual(AccessKind::Write);
     let probe = access(0x403ABC, 1, AccessKind::ProbeWrite);
     let odd = access(0x403ABD, 2, AccessKind::Read);
     let device = r.with_attributes(eight(0x00));
-    run(1, r, read, THIRD, LEAF);
-    run(2, r, write, THIRD, LEAF);
-    run(3, r, probe, THIRD, LEAF);
-    run(4, r.with_hd(false), write, THIRD, LEAF);
-    run(5, r.with_ha(false).with_hd(false), write, THIRD, LEAF);
-    run(5, r.with_ha(false), write, THIRD, LEAF);
-    run(6, r, read, 0x4000F003, LEAF);
-    run(7, r, read, 0x40010003, LEAF);
-    run(8, r.with_output(0), read, THIRD, 0x00080001000003C3);
-    run(9, r, read, THIRD, 0x00080000800053C1);
-    run(10, device, odd, THIRD, LEAF);
-    run(11, r, access(0x403FFC, 4, AccessKind::Read), THIRD, LEAF);
-    run(11, r, access(0x403FFD, 4, AccessKind::Read), THIRD, LEAF);
-    print(b"under bit 62: ");
-    run(2, r, write, NO_WRITE_BELOW, LEAF);
-    print(b"with HPD: ");
-    run(2, r.with_hpd0(true), write, NO_WRITE_BELOW, LEAF);
-    print(b"with EE: ");
-    run(2, r.with_ee(true), write, THIRD, LEAF);
+    run(&rt, 1, r, read, THIRD, LEAF)?;
+    run(&rt, 2, r, write, THIRD, LEAF)?;
+    run(&rt, 3, r, probe, THIRD, LEAF)?;
+    run(&rt, 4, r.with_hd(false), write, THIRD, LEAF)?;
+    run(&rt, 5, r.with_ha(false).with_hd(false), write, THIRD, LEAF)?;
+    run(&rt, 5, r.with_ha(false), write, THIRD, LEAF)?;
+    run(&rt, 6, r, read, 0x4000F003, LEAF)?;
+    run(&rt, 7, r, read, 0x40010003, LEAF)?;
+    run(&rt, 8, r.with_output(0), read, THIRD, 0x00080001000003C3)?;
+    run(&rt, 9, r, read, THIRD, 0x00080000800053C1)?;
+    run(&rt, 10, device, odd, THIRD, LEAF)?;
+    run(
+        &rt,
+        11,
+        r,
+        access(0x403FFC, 4, AccessKind::Read),
+        THIRD,
+        LEAF,
+    )?;
+    run(
+        &rt,
+        11,
+        r,
+        access(0x403FFD, 4, AccessKind::Read),
+        THIRD,
+        LEAF,
+    )?;
+    print!(rt; "under bit 62: ")?;
+    run(&rt, 2, r, write, NO_WRITE_BELOW, LEAF)?;
+    print!(rt; "with HPD: ")?;
+    run(&rt, 2, r.with_hpd0(true), write, NO_WRITE_BELOW, LEAF)?;
+    print!(rt; "with EE: ")?;
+    run(&rt, 2, r.with_ee(true), write, THIRD, LEAF)?;
     let mut little = [0u8; LENGTH];
-    run_bytes(&mut little, r, write);
-    print(b"with EE: ");
+    run_bytes(&rt, &mut little, r, write)?;
+    print!(rt; "with EE: ")?;
     let mut big = [0u8; LENGTH];
-    run_bytes(&mut big, r.with_ee(true), write);
+    run_bytes(&rt, &mut big, r.with_ee(true), write)?;
     let mut tables16 = [0u8; LENGTH];
-    run_kib16(&mut tables16, r);
+    run_kib16(&rt, &mut tables16, r)?;
     let mut tables64 = [0u8; LENGTH];
-    run_kib64(&mut tables64, r);
+    run_kib64(&rt, &mut tables64, r)?;
     let mut long = [0u8; TOO_LONG];
-    run_long(&mut long, read);
+    run_long(&rt, &mut long, read)?;
     let mut memory = [0u8; LENGTH];
-    run_session(&mut memory, r);
+    run_session(&rt, &mut memory, r)
 }
