@@ -3,21 +3,21 @@
 --     Borrow r s                what the `&mut Session` r owns, at the session s
 --     Cell r s, Open r          once it is open: the session's cell by its fields, with s in it, and the borrow
 --     opened, closed            it is opened, and closed at the session that then lies in the cell
---     regime-lies ..            which byte of a session each field starts at
---     regime-is, set_is         what is known of its regime, and of whether that is set; regime-typed, set_typed: their machine values have their types
---     IsEntry, entry-is, put_is, same-is     what is known of an entry; of one of a session's; of a session with another in its place; of one whose entries are all the same
---     emptied-is                what is known of a session with every entry emptied
---     entry_of, puts-entry      `session.entries[i]` as an operand, and given another entry. Local a holds its address, and the cell is entry p
---     calls-empty               `Entry::empty` is called, and the empty entry lands; `EmptyC` is its contract
+--     regime_lies ..            which byte of a session each field starts at
+--     regime_is, set_is         what is known of its regime, and of whether that is set; regime_typed, set_typed: their machine values have their types
+--     IsEntry, entry_is, put_is, same_is     what is known of an entry; of one of a session's; of a session with another in its place; of one whose entries are all the same
+--     emptied_is                what is known of a session with every entry emptied
+--     entry_of, puts_entry      `session.entries[i]` as an operand, and given another entry. Local a holds its address, and the cell is entry p
+--     calls_empty               `Entry::empty` is called, and the empty entry lands; `EmptyC` is its contract
 -- Assumes `Logic`.
-use mathlib.Core.Path.{◌≡◌, refl, sym, ◌∙◌, ap, subst}
+use mathlib.Core.Path.{◌≡◌, refl, sym, ◌∙◌, subst}
 use Prim.Native.Nat.{ℕ, zero, suc, ◌+◌, ◌<◌}
 use native.Mathlib.Nat.{not-suc-le-zero, le_of_suc-le-suc}
 use mathlib.Core.List.{List, [], ◌∷◌, map}
 use mathlib.Core.Option.{some as found}
 use lib.ListN.{length, get_or, set, replicate, length-set, length-map}
 use seplogic.Ra.Ura.{Ura}
-use seplogic.Ra.TreeShare.{full_share}
+use base.Fraction.{full_share}
 use lib.Dec.{T}
 use mir.Syntax.{Ty, Tys, Place, Opd as Operand, Body as Code, place, deref, copy, rv_opd, assign, seq, call, named, w8, w16, w32, tnil, tcons, ty_int, ty_struct, ty_array}
 use mir.Val.{Val, WT, has_ty, vunit, vint, vptr, vstruct, vnil, vcons, of_list}
@@ -33,7 +33,7 @@ use types.Run.{Reads, Writes, Opd, look, stop, hop, from, load, of_opd, assigns,
 use types.Part.{Part, whole, sub, look_in, store_in}
 use sound.WpLaws.{FmC}
 use denote.Laws.{Is}
-use denote.Ref.{Bor, MutBor}
+use denote.Ref.{MutBor}
 use denote.Shadow.{shadow}
 use denote.Array.{each}
 use denote.Index.{place as element_at}
@@ -101,7 +101,7 @@ module _ (s : Session) (is : IsSession s) where
 
 -- the machine values of entries
 abbrev evals : List Entry → List Val
-evals es = map (E'.the_field_laws).val (map (E.the_field).into es)
+evals = map eval
 
 abbrev field_tys : Tys
 field_tys = tcons R'.mir (tcons (ty_array E'.mir entry_count) (tcons (ty_int w8) (tcons (ty_int w8) (tcons (ty_int w16) (tcons (ty_int w32) tnil)))))
@@ -139,7 +139,7 @@ module _ (κ : Lft) (q : Share) (r : MutBor Session) where
   abbrev pub Open : Fml
   Open = mutable.Open S.the_type S'.the_laws r.ref_ptr.0 r.ref_ptr.1 κ q r.ghost_name r.now
 
-module _ (r : Bor Session) where
+module _ (r : MutBor Session) where
   abbrev pub Cell : Session → Fml
   Cell s = fat full_share laid_ty r.ref_ptr.0 r.ref_ptr.1 (laid s (evals s.entries))
 
@@ -160,13 +160,10 @@ entry_at_lem (e ∷ es) zero l = refl
 entry_at_lem (e ∷ es) (suc k) l = entry_at_lem es k (le_of_suc-le-suc l)
 
 evals_set : (es : List Entry) (k : ℕ) (e : Entry) → set (evals es) k (eval e) ≡ evals (set es k e)
-evals_set es k e =
-    let into = (E.the_field).into in
-    let val = (E'.the_field_laws).val in
-    sym (ap (map val) (map_set into es k e) ∙ map_set val (map into es) k (into e))
+evals_set es k e = sym (map_set eval es k e)
 
 abbrev Each : List Entry → List Val → Type 0
-Each es us = shadow (each (E.the_field).row.Denot (E.the_field).row.own_val (map (E.the_field).into es) us)
+Each es us = shadow (each (E.the_row).Denot (E.the_row).own_val es us)
 
 each_told : (es : List Entry) (us : List Val) → Each es us → us ≡ evals es
 each_told [] [] s = refl
@@ -181,10 +178,10 @@ each_put (x ∷ es) (suc k) e s i = (s.0, each_put es k e s.1 i)
 
 module _ (s : Session) (is : IsSession s) where
   sixty_four : length s.entries ≡ entry_count
-  sixty_four = sym (length-map s.entries (E.the_field).into) ∙ (LL.owed S.the_type S'.the_laws s (sval s ∷ []) is).1.0.1.0.1
+  sixty_four = (LL.owed S.the_type S'.the_laws s (sval s ∷ []) is).1.0.1.0.1
 
   evals_long : length (evals s.entries) ≡ entry_count
-  evals_long = length-map (map (E.the_field).into s.entries) (E'.the_field_laws).val ∙ length-map s.entries (E.the_field).into ∙ sixty_four
+  evals_long = length-map s.entries eval ∙ sixty_four
 
   all_entries : Each s.entries (evals s.entries)
   all_entries =
@@ -203,10 +200,10 @@ module _ (s : Session) (is : IsSession s) where
   put_is k e i =
       let h = LL.owed S.the_type S'.the_laws s (sval s ∷ []) is in
       LL.owes S.the_type S'.the_laws (with_entry s k e)
-      (h.0, ((evals (set s.entries k e), ((refl, length-map (set s.entries k e) (E.the_field).into ∙ length-set s.entries k e ∙ sixty_four), each_put s.entries k e all_entries i)), h.1.1))
+      (h.0, ((evals (set s.entries k e), ((refl, length-set s.entries k e ∙ sixty_four), each_put s.entries k e all_entries i)), h.1.1))
 
 -- where it lies, as a part of the session's cell
-module _ (r : Bor Session) (is : IsSession r.now) (k : ℕ) (l : k < entry_count) where
+module _ (r : MutBor Session) (is : IsSession r.now) (k : ℕ) (l : k < entry_count) where
   abbrev pub spot : ℕ
   spot = element_at 24 (r.ref_ptr.1 + 64) k
 
@@ -220,7 +217,7 @@ module _ (r : Bor Session) (is : IsSession r.now) (k : ℕ) (l : k < entry_count
     open 𝓛 use {H}
 
     entry_part : K → {j : Item 𝓤} → j ≡ ‵ (Cell r r.now) → Part K 𝓛 j full_share E'.mir r.ref_ptr.0 spot (get_or us k vunit) (Back 𝓤)
-    entry_part t cell = subst (λ (i : Item 𝓤). Part K 𝓛 i full_share E'.mir r.ptr.0 spot (get_or us k vunit) (Back 𝓤)) (sym cell)
+    entry_part t cell = subst (λ (i : Item 𝓤). Part K 𝓛 i full_share E'.mir r.ref_ptr.0 spot (get_or us k vunit) (Back 𝓤)) (sym cell)
         (item t entry_count us k (subst (λ (n : ℕ). k < n) (sym (evals_long r.now is)) l) (evals_long r.now is) (sub t 1 entries_lie (whole t)))
 
     module _ {Γ : List (Item 𝓤)} {Δ : Env 𝓤 H} {a : ℕ} where
