@@ -1,12 +1,11 @@
--- What each C function of a session promises, from its own contract: `..-tells`, that its ensures clause says what specs/Says.antt has, at every model of
--- the logic; `..-free`, that its requires clause asks nothing. A contract that says less breaks a law here. (A function over a lent struct is
--- proved by hand, so there is no `Learnt` to name.)
+-- What each C function of a session promises, from its own contract: `.._tells`, that its ensures clause says what specs/Says.antt has, at every model of
+-- the logic; `.._free`, that its requires clause asks nothing. A contract that says less breaks a law here.
 use Prim.Native.Nat.{ℕ}
 use mathlib.Core.List.{List}
 use base.Logic.{ent, emp, id⊢}
 use contract.Lifetimes.{Lfts}
 use contract.Monad.{fact}
-use denote.Ref.{MutBor, at_last}
+use denote.Ref.{Bor, MutBor, at_last}
 use denote.Triple.Clauses.{ClausesAt}
 use borrow.Fn.World.{World as LogicModel}
 use Rattle.vmsa.specs.declared.RegimeWords.{RegimeWords}
@@ -31,18 +30,18 @@ module _ (W : LogicModel) (lives : Lfts 1) (session : MutBor SessionStruct) wher
   pub empty_free : ent W.𝓤 (emp W.𝓤) (empty_clauses.requires tt)
   empty_free = id⊢ W.𝓤 _
 
-module _ (W : LogicModel) (lives : Lfts 3) (session : MutBor SessionStruct) (memory : MutBor (List ℕ)) (regime : MutBor RegimeWords) where
+module _ (W : LogicModel) (lives : Lfts 3) (session : MutBor SessionStruct) (memory : Bor (List ℕ)) (regime : Bor RegimeWords) where
   abbrev pub set_clauses : ClausesAt W.𝓤 SetRegime.ended lives
   set_clauses = SetRegime.clauses W.𝓛 W.𝓜.mem W.𝓡.run lives (session, (memory, (regime, tt)))
 
-  pub set_tells : (session' : SessionStruct) (memory' : List ℕ) (n : ℕ)
-      → ent W.𝓤 (set_clauses.ensures tt n (at_last session session', (at_last memory memory', (regime, tt)))) (fact W.𝓤 (SetSays session.now memory.now regime.now session' memory' n))
-  set_tells session' memory' n = id⊢ W.𝓤 _
+  pub set_tells : (session' : SessionStruct) (n : ℕ)
+      → ent W.𝓤 (set_clauses.ensures tt n (at_last session session', (memory, (regime, tt)))) (fact W.𝓤 (SetSays session.now memory.now regime.now session' memory.now n))
+  set_tells session' n = id⊢ W.𝓤 _
 
   pub set_free : ent W.𝓤 (emp W.𝓤) (set_clauses.requires tt)
   set_free = id⊢ W.𝓤 _
 
-module _ (W : LogicModel) (lives : Lfts 4) (session : MutBor SessionStruct) (memory : MutBor (List ℕ)) (a : MutBor AccessWords) (answer : MutBor AnswerWords) where
+module _ (W : LogicModel) (lives : Lfts 4) (session : MutBor SessionStruct) (memory : MutBor (List ℕ)) (a : Bor AccessWords) (answer : MutBor AnswerWords) where
   abbrev pub access_clauses : ClausesAt W.𝓤 AccessOf.ended lives
   access_clauses = AccessOf.clauses W.𝓛 W.𝓜.mem W.𝓡.run lives (session, (memory, (a, (answer, tt))))
 
