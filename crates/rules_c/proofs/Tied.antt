@@ -5,7 +5,7 @@ use mathlib.Core.List.{List}
 use base.Logic.{ent, via}
 use contract.Lifetimes.{Lfts}
 use contract.Monad.{fact, fact_mono}
-use denote.Ref.{MutBor, at_last}
+use denote.Ref.{Bor, MutBor, at_last}
 use borrow.Fn.World.{World as LogicModel}
 use Rattle.vmsa.specs.Words.{regime_of}
 use Rattle.vmsa.specs.declared.RegimeWords.{RegimeWords}
@@ -31,25 +31,26 @@ pub empty_begins : (W : LogicModel) (lives : Lfts 1) (session : MutBor SessionSt
 empty_begins W lives session s = empty_tells W lives session s
 
 module _ (W : LogicModel) (lives : Lfts 4) (memory : MutBor (List ℕ)) (answer : MutBor AnswerWords) where
-  pub walk_keeps : (regime : MutBor RegimeWords) (a : MutBor AccessWords) (m' : List ℕ) (w : AnswerWords)
+  pub walk_keeps : (regime : Bor RegimeWords) (a : Bor AccessWords) (m' : List ℕ) (w : AnswerWords)
       → ent W.𝓤 ((walk_clauses W lives memory regime a answer).ensures tt tt (at_last memory m', (regime, (a, (at_last answer w, tt))))) (fact W.𝓤 (WalkRules memory.now regime.now a.now m' w))
   walk_keeps regime a m' w =
       via W.𝓤 (fact W.𝓤 (WalkSays memory.now regime.now a.now m' w)) (walk_tells W lives memory regime a answer m' w)
       (fact_mono W.𝓤 _ _ (λ h. walk_rules memory.now regime.now a.now m' w h))
 
-  pub access_makes : (session : MutBor SessionStruct) (s' : SessionStruct) (m' : List ℕ) (a : MutBor AccessWords) (w : AnswerWords)
+  pub access_makes : (session : MutBor SessionStruct) (s' : SessionStruct) (m' : List ℕ) (a : Bor AccessWords) (w : AnswerWords)
       → ent W.𝓤 ((access_clauses W lives session memory a answer).ensures tt tt (at_last session s', (at_last memory m', (a, (at_last answer w, tt)))))
       (fact W.𝓤 (MadeC session.now memory.now (access (access_of a.now)) (handed s' m' (answer_reply w))))
   access_makes session s' m' a w =
       via W.𝓤 (fact W.𝓤 (AccessSays session.now memory.now a.now s' m' w)) (access_tells W lives session memory a answer s' m' w)
       (fact_mono W.𝓤 _ _ (λ h. accessed session.now memory.now a.now s' m' w h))
 
-pub set_makes : (W : LogicModel) (lives : Lfts 3) (session : MutBor SessionStruct) (memory : MutBor (List ℕ)) (s' : SessionStruct) (m' : List ℕ) (regime : MutBor RegimeWords) (n : ℕ)
-    → ent W.𝓤 ((set_clauses W lives session memory regime).ensures tt n (at_last session s', (at_last memory m', (regime, tt))))
-    (fact W.𝓤 (MadeC session.now memory.now (set_regime (regime_of regime.now)) (handed s' m' (number_reply n))))
-set_makes W lives session memory s' m' regime n =
-    via W.𝓤 (fact W.𝓤 (SetSays session.now memory.now regime.now s' m' n)) (set_tells W lives session memory regime s' m' n)
-    (fact_mono W.𝓤 _ _ (λ h. regime_set session.now memory.now regime.now s' m' n h))
+-- what lies behind a `&` has one value, before the call and after it
+pub set_makes : (W : LogicModel) (lives : Lfts 3) (session : MutBor SessionStruct) (memory : Bor (List ℕ)) (s' : SessionStruct) (regime : Bor RegimeWords) (n : ℕ)
+    → ent W.𝓤 ((set_clauses W lives session memory regime).ensures tt n (at_last session s', (memory, (regime, tt))))
+    (fact W.𝓤 (MadeC session.now memory.now (set_regime (regime_of regime.now)) (handed s' memory.now (number_reply n))))
+set_makes W lives session memory s' regime n =
+    via W.𝓤 (fact W.𝓤 (SetSays session.now memory.now regime.now s' memory.now n)) (set_tells W lives session memory regime s' n)
+    (fact_mono W.𝓤 _ _ (λ h. regime_set session.now memory.now regime.now s' memory.now n h))
 
 pub store_makes : (W : LogicModel) (lives : Lfts 2) (session : MutBor SessionStruct) (memory : MutBor (List ℕ)) (address value : ℕ) (s' : SessionStruct) (m' : List ℕ) (n : ℕ)
     → ent W.𝓤 ((store_clauses W lives session memory address value).ensures tt n (at_last session s', (at_last memory m', (address, (value, tt)))))
