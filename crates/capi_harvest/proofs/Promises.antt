@@ -1,12 +1,11 @@
--- What each C function of a harvest promises, from its own contract: `..-tells`, that its ensures clause says what specs/Says.antt has, at every model of
--- the logic; `..-free`, that its requires clause asks nothing. A contract that says less breaks a law here. (A function over a lent struct is
--- proved by hand, so there is no `Learnt` to name.)
+-- What each C function of a harvest promises, from its own contract: `.._tells`, that its ensures clause says what specs/Says.antt has, at every model of
+-- the logic; `.._free`, that its requires clause asks nothing. A contract that says less breaks a law here.
 use Prim.Native.Nat.{ℕ}
 use mathlib.Core.List.{List}
 use base.Logic.{ent, emp, id⊢}
 use contract.Lifetimes.{Lfts}
 use contract.Monad.{fact}
-use denote.Ref.{MutBor, at_last}
+use denote.Ref.{Bor, MutBor, at_last}
 use denote.Triple.Clauses.{ClausesAt}
 use borrow.Fn.World.{World as LogicModel}
 use Rattle.vmsa.specs.declared.RegimeWords.{RegimeWords}
@@ -15,7 +14,7 @@ use Rattle.capi_harvest.specs.Says.{HarvestSays, SessionHarvestSays}
 use Rattle.capi_harvest.specs.contracts.vmsa_harvest as Harvest
 use Rattle.capi_harvest.specs.contracts.vmsa_session_harvest as SessionHarvest
 
-module _ (W : LogicModel) (lives : Lfts 3) (memory : MutBor (List ℕ)) (regime : MutBor RegimeWords) (first count : ℕ) (map : MutBor (List ℕ)) where
+module _ (W : LogicModel) (lives : Lfts 3) (memory : MutBor (List ℕ)) (regime : Bor RegimeWords) (first count : ℕ) (map : MutBor (List ℕ)) where
   abbrev pub harvest_clauses : ClausesAt W.𝓤 Harvest.ended lives
   harvest_clauses = Harvest.clauses W.𝓛 W.𝓜.mem W.𝓡.run lives (memory, (regime, (first, (count, (map, tt)))))
 
