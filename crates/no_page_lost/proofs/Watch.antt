@@ -250,6 +250,7 @@ module _ (F : Functions SessionStruct) (is : Leaving F) (s₀ : SessionStruct) (
 -- ---- with no harvest in between
 
 unharvested : {A : Type 0} (R : Regime) (address : ℕ) (between : List Event) → Unharvested between → Took R address between → A
+unharvested R address [] u t = elim t [ ]
 unharvested R address (e ∷ es) u (here t) = differ (sym (ap (λ (c : Call). harvests c e.reply) t.harvest.made ∙ ap is_done t.harvest.reply) ∙ u.0)
 unharvested R address (e ∷ es) u (earlier t) = unharvested R address es u.1 t
 
