@@ -1,11 +1,10 @@
--- What vmsa_stepwise_start and vmsa_stepwise_unreachable promise, from their own contracts: `..-tells`, that the ensures clause says what specs/Says.antt has,
--- at every model of the logic; `..-free`, that the requires clause asks nothing. A contract that says less breaks a law here. (A function over a lent struct is
--- proved by hand, so there is no `Learnt` to name.)
+-- What vmsa_stepwise_start and vmsa_stepwise_unreachable promise, from their own contracts: `.._tells`, that the ensures clause says what specs/Says.antt has,
+-- at every model of the logic; `.._free`, that the requires clause asks nothing. A contract that says less breaks a law here.
 use Prim.Native.Nat.{ℕ}
 use base.Logic.{ent, emp, id⊢}
 use contract.Lifetimes.{Lfts}
 use contract.Monad.{fact}
-use denote.Ref.{MutBor, at_last}
+use denote.Ref.{Bor, MutBor, at_last}
 use denote.Triple.Clauses.{ClausesAt}
 use borrow.Fn.World.{World as LogicModel}
 use Rattle.vmsa.specs.declared.RegimeWords.{RegimeWords}
@@ -15,7 +14,7 @@ use Rattle.capi_stepwise.specs.Says.{StartSays, UnreachableSays}
 use Rattle.capi_stepwise.specs.contracts.vmsa_stepwise_start as Start
 use Rattle.capi_stepwise.specs.contracts.vmsa_stepwise_unreachable as Unreachable
 
-module _ (W : LogicModel) (lives : Lfts 3) (regime : MutBor RegimeWords) (a : MutBor AccessWords) (walk : MutBor StepwiseWords) where
+module _ (W : LogicModel) (lives : Lfts 3) (regime : Bor RegimeWords) (a : Bor AccessWords) (walk : MutBor StepwiseWords) where
   abbrev pub start_clauses : ClausesAt W.𝓤 Start.ended lives
   start_clauses = Start.clauses W.𝓛 W.𝓜.mem W.𝓡.run lives (regime, (a, (walk, tt)))
 
