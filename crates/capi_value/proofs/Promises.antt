@@ -1,6 +1,5 @@
 -- What vmsa_stepwise_value promises, from its own contract: `value_tells`, that its ensures clause says what specs/Says.antt has, at every model of the
--- logic; `value_free`, that its requires clause asks nothing. A contract that says less breaks a law here. (A function over a lent struct is
--- proved by hand, so there is no `Learnt` to name.)
+-- logic; `value_free`, that its requires clause asks nothing. A contract that says less breaks a law here.
 use Prim.Native.Nat.{ℕ}
 use base.Logic.{ent, emp, id⊢}
 use contract.Lifetimes.{Lfts}
