@@ -597,7 +597,7 @@ module _ (W : Walker) (L : Lawful W) where
         spoken_refused x e =
             record {
               own = λ hp. record {
-                one = λ hd. sym (ap (λ (w : Told Reply). uncounted w.reply) (then_is hp (Refused x) e));
+                one = λ hd. rw (ap (λ (w : Told Reply). w.reply) (then_is hp (Refused x) e)) refl;
                 still = λ hd. refl;
                 again = λ hd. plain_told (Refused x) e;
               };
