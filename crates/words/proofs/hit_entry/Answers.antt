@@ -10,9 +10,7 @@ unfolding hit_of
 returns-then-set-eq0 c = rw (c.refusal_words.ensures, ap not (eq-eqb c.args.set 0 c.if-set-eq0.true))
 
 pub hit_words-requires : goal.hit_words-requires
-hit_words-requires c =
-    let s = c.args in
-    (access_accepted s.n c.regime-r.result c.access_of-a.result (sym c.check_session_access.ensures ∙ c.in-Accepted.is)).1
+hit_words-requires c = (access_accepted _ c.regime-r.result c.access_of-a.result (sym c.check_session_access.ensures ∙ c.in-Accepted.is)).1
 
 pub returns-in-Refused : goal.returns-in-Refused
 unfolding hit_of
