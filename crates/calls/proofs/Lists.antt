@@ -1,16 +1,15 @@
 -- Rule 1 holds of every list of calls, by any functions whose every call it holds of; and so of the functions of a session.
 use Prim.Native.Nat.{ℕ}
-use mathlib.Core.List.{List, [], ◌∷◌}
+use mathlib.Core.List.{List, ◌∷◌}
 use mathlib.Core.Logic.{◌↔◌}
-use mathlib.Core.Option.{Option, none, some}
+use Rattle.std.specs.Prelude.{Option, None, Some, Ok, Err}
 use mathlib.Core.Path.{◌≡◌, refl, sym, ap, ap₂, subst, subst⁻¹, ◌∙◌}
 use lib.ListN.{length, get_or}
 use Rattle.descriptor.proofs.Tests.{clash}
 use Rattle.vmsa.specs.declared.Regime.{Regime}
 use Rattle.vmsa.specs.Answers.{number_of}
 use Rattle.vmsa.specs.declared.Refusal.{Refusal}
-use Rattle.checks.specs.declared.Checked.{Checked}
-use Rattle.checks.specs.declared.Checked.TheVariants.{Accepted, Refused}
+use Rattle.checks.specs.Order.{Checked}
 use Rattle.checks.specs.Order.{first_of, regime_rows, regime_check}
 use Rattle.checks.proofs.Accept.{settled}
 use Rattle.harvest.specs.Harvest.{Harvested, harvested as harvested_to}
@@ -38,8 +37,8 @@ unfolding regime_check
 set_managed n g r reply accepted f = by (first_of (regime_rows n r)) refl
   where
     by : (x : Checked) → first_of (regime_rows n r) ≡ x → Managed r
-    by Accepted e = (settled n r e).managed
-    by (Refused x) e = absurd (accepted (number_of x) ((f (number_of x)).1 (x, refuses_first (regime_rows n r) x e, refl)))
+    by (Ok _) e = (settled n r e).managed
+    by (Err x) e = absurd (accepted (number_of x) ((f (number_of x)).1 (x, refuses_first (regime_rows n r) x e, refl)))
 
 after_managed : (n : ℕ) (g : Option Regime) (c : Call) (reply : Reply) → Refusals n g c reply → ManagedIn g → ManagedIn (regime_after c reply g)
 after_managed n g (set_regime r) done f h = set_managed n g r done (λ k e. clash (cc)) f
@@ -133,12 +132,12 @@ rule_1_code s₀ m₀ s m past chain = rule1_list regime_held Made (rule1_leaves
 
 -- ---- a harvest that is refused leaves its map as it was
 
-pub map_kept_in : (g : Option Regime) (first count : ℕ) (m map : List ℕ) (y : Refusal) → (harvest_in ours g first count m map).reply ≡ Refused y → (harvest_in ours g first count m map).map ≡ map
-map_kept_in none first count m map y q = refl
-map_kept_in (some r) first count m map y q = map_kept r first count m map y q
+pub map_kept_in : (g : Option Regime) (first count : ℕ) (m map : List ℕ) (y : Refusal) → (harvest_in ours g first count m map).reply ≡ Err y → (harvest_in ours g first count m map).map ≡ map
+map_kept_in None first count m map y q = refl
+map_kept_in (Some r) first count m map y q = map_kept r first count m map y q
 
 pub map_kept_leaves : (s s' : SessionStruct) (first count : ℕ) (m map after filled : List ℕ) (x : Checked) → (s', harvested_to x after filled) ≡ harvest_leaves s first count m map
-    → (y : Refusal) → x ≡ Refused y → filled ≡ map
+    → (y : Refusal) → x ≡ Err y → filled ≡ map
 map_kept_leaves s s' first count m map after filled x e y q =
     ap (λ (t : SessionStruct × Harvested Checked). t.1.map) e
     ∙ map_kept_in (regime_held s) first count m map y (sym (ap (λ (t : SessionStruct × Harvested Checked). t.1.reply) e) ∙ q)

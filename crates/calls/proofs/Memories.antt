@@ -3,7 +3,7 @@ use Prim.Native.Nat.{ℕ, ◌+◌, ◌-◌, ◌<◌, ◌≤◌}
 use mathlib.Core.Bool.{Bool, true, false}
 use mathlib.Core.List.{List, ◌++◌, append_assoc}
 use mathlib.Core.Logic.{◌⊎◌, inl, inr}
-use mathlib.Core.Option.{some}
+use Rattle.std.specs.Prelude.{Some}
 use mathlib.Core.Path.{◌≡◌, refl, sym, ap, subst, ◌∙◌}
 use native.Mathlib.Omega.{arith}
 use lib.Dec.{ltb}
@@ -100,7 +100,7 @@ written_same {At} {m} {n} {m'} {n'} (parted s k r p q e) In h = record { long = 
 
 -- ---- memories that agree in the pool have one pool
 
-pub pool_same : (r : Regime) (m n : List ℕ) → Same (InPool (some r)) m n → pool_bytes r.pool m ≡ pool_bytes r.pool n
+pub pool_same : (r : Regime) (m n : List ℕ) → Same (InPool (Some r)) m n → pool_bytes r.pool m ≡ pool_bytes r.pool n
 pool_same r m n h =
     let s = r.pool.start in
     let k = r.pool.length in

@@ -2,7 +2,7 @@
 use Prim.Native.Nat.{ℕ, ◌+◌, ◌-◌, ◌^◌, ◌≤◌, ◌<◌}
 use mathlib.Core.Bool.{Bool, true, false}
 use mathlib.Core.List.{List}
-use mathlib.Core.Option.{Option, none, some}
+use Rattle.std.specs.Prelude.{Option, None, Some, Ok, Err}
 use mathlib.Core.Path.{◌≡◌, refl, sym, ap, ap₂, subst, subst⁻¹, ◌∙◌}
 use native.Mathlib.Omega.{arith}
 use lib.ListN.{length, get_or}
@@ -17,11 +17,9 @@ use Rattle.vmsa.specs.declared.Regime.{Regime}
 use Rattle.vmsa.specs.declared.Access.{Access}
 use Rattle.vmsa.specs.declared.Leaf.{Leaf}
 use Rattle.vmsa.specs.declared.Refusal.{Refusal}
-use Rattle.checks.specs.declared.Checked.{Checked}
-use Rattle.checks.specs.declared.Checked.TheVariants.{Accepted, Refused}
+use Rattle.checks.specs.Order.{Checked}
 use Rattle.checks.specs.Order.{first_of, memory_rows, setting_rows, access_rows, store_rows, harvest_rows, regime_check, session_store_check, harvest_check, and_then}
 use Rattle.checks.proofs.Accept.{clear, pooled}
-use Rattle.lookup.specs.declared.Word.TheVariants.{Value}
 use Rattle.lookup.specs.Steps.{fetched}
 use Rattle.walk.specs.Walk.{pool_bytes}
 use Rattle.walk.proofs.Parts.{length_part, part_put}
@@ -30,18 +28,18 @@ use Rattle.rules.specs.Tables.{reader_of}
 use Rattle.rules.proofs.Refusals.{first_refuses, refuses_first}
 use Rattle.harvest.specs.Harvest.{harvest as harvest_over, harvest_by}
 use Rattle.harvest.proofs.Laws.{harvest_length, harvest_bytes, outside, unheard}
-use Rattle.tlb.specs.Replies.{Reply, done, refused, answered, Told, harvest_reply, updates}
+use Rattle.tlb.specs.Replies.{Reply, done, refused, answered, harvest_reply, updates}
 use Rattle.tlb.specs.Walker.{Spot, lost, found, Entry, empty, held_in, Walked, declined, put_word, walk_from, walked, access_held, access_by, access_in}
 use Rattle.tlb.specs.Ours.{offset_of, located, judged, stamped, ours}
-use Rattle.tlb.specs.Entries.{entry_view, regime_in, page_for, entry_for, kept_entry}
+use Rattle.tlb.specs.Entries.{entry_view, page_for, entry_for, kept_entry}
 use Rattle.checks.proofs.Rows.{first_append, both}
 use Rattle.tlb.proofs.Walking.{put_is}
 use Rattle.tlb.proofs.Found.{where_found, in_the_pool}
 use Rattle.session.specs.declared.Session.{Session as SessionStruct}
-use Rattle.session.specs.Model.{Session, Handed, handed, Stepped, stay, refusal, keep, set_by, learn, access_with, store_by, store_in, emptied_by, harvest_in, harvest_to, Call, set_regime, access, store, drop_all, harvest, call}
+use Rattle.session.specs.Model.{Session, Handed, Stepped, stay, refusal, keep, set_by, learn, store_by, store_in, emptied_by, harvest_in, harvest_to, Call, set_regime, access, store, drop_all, harvest, call}
 use Rattle.session.specs.View.{session_view, regime_held, set_after, entry_in, with_entry, emptied_after, harvest_of, session_after, leaves, number_in}
-use Rattle.session.proofs.Calls.{set_checked, Storable, store_accepted, access_learn, given, access_is, unkept_same, viewed_leaves, regime_or, by_or}
-use Rattle.calls.specs.Chains.{event, Functions, Leaving, Calling, regime_after}
+use Rattle.session.proofs.Calls.{set_checked, Storable, store_accepted, access_learn, access_is, kept_is, unkept_same, viewed_leaves, regime_or, by_or}
+use Rattle.calls.specs.Chains.{event, Functions, Leaving, regime_after}
 use Rattle.calls.proofs.Memories.{Parted, Written, still, wrote, parted, written_long, written_bytes, written_outside, written_same, pool_same, located_same}
 use Rattle.calls.specs.Rule1.{rows_of, InPool, Reach, StoredAt, Rule1Event, Same, Rule1Call, Rule1OfModel}
 
@@ -55,8 +53,8 @@ done_not k e = clash (cc)
 
 -- an access by the first row that applies
 abbrev AccessBy : List ℕ → Checked → Walked → Type 0
-AccessBy m (Refused x) w = w ≡ declined m (number_of x)
-AccessBy m Accepted w = (k : ℕ) → w.reply ≡ refused k → ⊥
+AccessBy m (Err x) w = w ≡ declined m (number_of x)
+AccessBy m (Ok _) w = (k : ℕ) → w.reply ≡ refused k → ⊥
 
 module _ (m : List ℕ) (a : Access) where
   spot_answers : (r : Regime) (at : Spot) (k : ℕ) → (walk_from ours r m a at).reply ≡ refused k → ⊥
@@ -64,63 +62,63 @@ module _ (m : List ℕ) (a : Access) where
   spot_answers r (found at u n) k e = answers_not (judged r u a) n k e
 
   held_answers : (r : Regime) (h : Option Leaf) (k : ℕ) → (access_held ours r m a h).reply ≡ refused k → ⊥
-  held_answers r none k e = spot_answers r (located r m (ours.page r a)) k e
-  held_answers r (some h) k e = by (dirtied_in (judged r h a)) e
+  held_answers r None k e = spot_answers r (located r m (ours.page r a)) k e
+  held_answers r (Some h) k e = by (dirtied_in (judged r h a)) e
     where
-      by : (b : Bool) → (pick b (walked ours r m a) (record { reply = answered (judged r h a) 0; memory = m; kept = none })).reply ≡ refused k → ⊥
+      by : (b : Bool) → (pick b (walked ours r m a) (record { reply = answered (judged r h a) 0; memory = m; kept = None })).reply ≡ refused k → ⊥
       by true e = spot_answers r (located r m (ours.page r a)) k e
       by false e = answers_not (judged r h a) 0 k e
 
   access_by_lem : (r : Regime) (h : Option Leaf) (x : Checked) → AccessBy m x (access_by ours r m a h x)
-  access_by_lem r h Accepted = held_answers r h
-  access_by_lem r h (Refused x) = refl
+  access_by_lem r h (Ok _) = held_answers r h
+  access_by_lem r h (Err x) = refl
 
   access_rows_lem : (g : Option Regime) (e : Entry) → AccessBy m (first_of (rows_of (length m) g (access a))) (access_in ours g m a e)
-  access_rows_lem none e = refl
-  access_rows_lem (some r) e =
-      subst⁻¹ (λ (x : Checked). AccessBy m x (access_in ours (some r) m a e)) (first_append (memory_rows (length m) r) (access_rows r a))
+  access_rows_lem None e = refl
+  access_rows_lem (Some r) e =
+      subst⁻¹ (λ (x : Checked). AccessBy m x (access_in ours (Some r) m a e)) (first_append (memory_rows (length m) r) (access_rows r a))
       (access_by_lem r (held_in e (ours.page r a)) (and_then (first_of (memory_rows (length m) r)) (first_of (access_rows r a))))
 
   -- a refused access keeps no leaf
-  unkept : (g : Option Regime) (e : Entry) (k : ℕ) → (access_in ours g m a e).reply ≡ refused k → (access_in ours g m a e).kept ≡ none
+  unkept : (g : Option Regime) (e : Entry) (k : ℕ) → (access_in ours g m a e).reply ≡ refused k → (access_in ours g m a e).kept ≡ None
   unkept g e k q = by (first_of (rows_of (length m) g (access a))) (access_rows_lem g e)
     where
-      by : (x : Checked) → AccessBy m x (access_in ours g m a e) → (access_in ours g m a e).kept ≡ none
-      by (Refused x) h = ap (λ (w : Walked). w.kept) h
-      by Accepted h = absurd (h k q)
+      by : (x : Checked) → AccessBy m x (access_in ours g m a e) → (access_in ours g m a e).kept ≡ None
+      by (Err x) h = ap (λ (w : Walked). w.kept) h
+      by (Ok _) h = absurd (h k q)
 
 -- any call by the first row that applies
 abbrev CallBy : Session → List ℕ → Checked → Stepped → Type 0
-CallBy s m (Refused x) y = y ≡ stay s (refusal m (number_of x))
-CallBy s m Accepted y = (k : ℕ) → y.reply ≡ refused k → ⊥
+CallBy s m (Err x) y = y ≡ stay s (refusal m (number_of x))
+CallBy s m (Ok _) y = (k : ℕ) → y.reply ≡ refused k → ⊥
 
 module _ (s : Session) (m : List ℕ) where
   set_rows : (r : Regime) (x : Checked) → CallBy s m x (set_by ours s m r x)
-  set_rows r Accepted = done_not
-  set_rows r (Refused x) = refl
+  set_rows r (Ok _) = done_not
+  set_rows r (Err x) = refl
 
   store_by_lem : (r : Regime) (address value : ℕ) (x : Checked) → CallBy s m x (stay s (store_by ours r m address value x))
-  store_by_lem r address value Accepted = done_not
-  store_by_lem r address value (Refused x) = refl
+  store_by_lem r address value (Ok _) = done_not
+  store_by_lem r address value (Err x) = refl
 
   store_rows_lem : (address value : ℕ) (g : Option Regime) → CallBy s m (first_of (rows_of (length m) g (store address value))) (stay s (store_in ours g m address value))
-  store_rows_lem address value none = refl
-  store_rows_lem address value (some r) =
-      subst⁻¹ (λ (x : Checked). CallBy s m x (stay s (store_in ours (some r) m address value))) (first_append (memory_rows (length m) r) (store_rows r.pool address))
+  store_rows_lem address value None = refl
+  store_rows_lem address value (Some r) =
+      subst⁻¹ (λ (x : Checked). CallBy s m x (stay s (store_in ours (Some r) m address value))) (first_append (memory_rows (length m) r) (store_rows r.pool address))
       (store_by_lem r address value (and_then (first_of (memory_rows (length m) r)) (first_of (store_rows r.pool address))))
 
   harvest_by_lem : (r : Regime) (first count : ℕ) (map : List ℕ) (x : Checked) → CallBy s m x (harvest_to ours s (harvest_by r first count m map x))
-  harvest_by_lem r first count map Accepted = λ k e. clash (cc)
-  harvest_by_lem r first count map (Refused x) = refl
+  harvest_by_lem r first count map (Ok _) = λ k e. clash (cc)
+  harvest_by_lem r first count map (Err x) = refl
 
   harvest_rows_lem : (first count : ℕ) (map : List ℕ) (g : Option Regime) → CallBy s m (first_of (rows_of (length m) g (harvest first count map))) (harvest_to ours s (harvest_in ours g first count m map))
   unfolding harvest_over harvest_check
-  harvest_rows_lem first count map none = refl
-  harvest_rows_lem first count map (some r) = harvest_by_lem r first count map (first_of (harvest_rows (length m) r first count (length map)))
+  harvest_rows_lem first count map None = refl
+  harvest_rows_lem first count map (Some r) = harvest_by_lem r first count map (first_of (harvest_rows (length m) r first count (length map)))
 
   learn_rows : (page : ℕ) (x : Checked) (w : Walked) → AccessBy m x w → CallBy s m x (learn ours s page w)
-  learn_rows page (Refused x) w e = ap (learn ours s page) e
-  learn_rows page Accepted w h = h
+  learn_rows page (Err x) w e = ap (learn ours s page) e
+  learn_rows page (Ok _) w h = h
 
   rows : (c : Call) → CallBy s m (first_of (rows_of (length m) s.regime c)) (call ours s m c)
   rows (set_regime r) =
@@ -146,8 +144,8 @@ module _ (s : Session) (m : List ℕ) where
     refusal_given q = by checked refl (rows c)
       where
         by : (x : Checked) → checked ≡ x → CallBy s m x (call ours s m c) → FirstNumber (rows_of (length m) s.regime c) k
-        by Accepted e h = absurd (h k q)
-        by (Refused x) e h = (x, refuses_first (rows_of (length m) s.regime c) x e, given_number x (call ours s m c) h q)
+        by (Ok _) e h = absurd (h k q)
+        by (Err x) e h = (x, refuses_first (rows_of (length m) s.regime c) x e, given_number x (call ours s m c) h q)
 
     refusal_gives : FirstNumber (rows_of (length m) s.regime c) k → (call ours s m c).reply ≡ refused k
     refusal_gives f = ap (λ (t : Stepped). t.reply) (subst (λ (x : Checked). CallBy s m x (call ours s m c)) (first_refuses f.1) (rows c)) ∙ ap refused f.2
@@ -156,17 +154,17 @@ module _ (s : Session) (m : List ℕ) where
     refusal_keeps q = by checked (rows c)
       where
         by : (x : Checked) → CallBy s m x (call ours s m c) → ((call ours s m c).session ≡ s) × ((call ours s m c).memory ≡ m)
-        by Accepted h = absurd (h k q)
-        by (Refused x) h = (ap (λ (t : Stepped). t.session) h, ap (λ (t : Stepped). t.memory) h)
+        by (Ok _) h = absurd (h k q)
+        by (Err x) h = (ap (λ (t : Stepped). t.session) h, ap (λ (t : Stepped). t.memory) h)
 
 -- ---- two calls over two memories
 
 -- a descriptor that lies in the pool
 wrote_pool : (r : Regime) (m n : List ℕ) (at v : ℕ) → r.pool.start ≤ at → at + 8 ≤ r.pool.start + r.pool.length → r.pool.start + r.pool.length ≤ length m
-    → Written (InPool (some r)) m n (put_word ours r m at v) (put_word ours r n at v)
+    → Written (InPool (Some r)) m n (put_word ours r m at v) (put_word ours r n at v)
 wrote_pool r m n at v p q f =
-    subst⁻¹ (λ (x : List ℕ). Written (InPool (some r)) m n x (put_word ours r n at v)) (put_is r m at v)
-    (subst⁻¹ (λ (x : List ℕ). Written (InPool (some r)) m n (put r.ee m at v) x) (put_is r n at v)
+    subst⁻¹ (λ (x : List ℕ). Written (InPool (Some r)) m n x (put_word ours r n at v)) (put_is r m at v)
+    (subst⁻¹ (λ (x : List ℕ). Written (InPool (Some r)) m n (put r.ee m at v) x) (put_is r n at v)
     (wrote r.ee at v (λ i a b. (omega arith, omega arith)) (omega arith)))
 
 record BothWalk (At : ℕ → Type 0) (m n : List ℕ) (x y : Walked) : Type 0 where
@@ -174,8 +172,8 @@ record BothWalk (At : ℕ → Type 0) (m n : List ℕ) (x y : Walked) : Type 0 w
   kept : x.kept ≡ y.kept
   memory : Written At m n x.memory y.memory
 
-module _ (r : Regime) (a : Access) (m n : List ℕ) (h : Same (InPool (some r)) m n) (f : r.pool.start + r.pool.length ≤ length m) where
-  both_spot : (x : Spot) → located r m (ours.page r a) ≡ x → BothWalk (InPool (some r)) m n (walk_from ours r m a x) (walk_from ours r n a x)
+module _ (r : Regime) (a : Access) (m n : List ℕ) (h : Same (InPool (Some r)) m n) (f : r.pool.start + r.pool.length ≤ length m) where
+  both_spot : (x : Spot) → located r m (ours.page r a) ≡ x → BothWalk (InPool (Some r)) m n (walk_from ours r m a x) (walk_from ours r n a x)
   both_spot (lost code level k) e = record { reply = refl; kept = refl; memory = still }
   both_spot (found at u k) e =
       let w = where_found r m (ours.page r a) e in
@@ -186,22 +184,22 @@ module _ (r : Regime) (a : Access) (m n : List ℕ) (h : Same (InPool (some r)) 
       record { reply = refl; kept = refl; memory = by (updates (judged r u a)) (stamped (judged r u a) u.value) p q }
     where
       by : (b : Bool) (v : ℕ) → r.pool.start ≤ at → at + 8 ≤ r.pool.start + r.pool.length
-          → Written (InPool (some r)) m n (pick b (put_word ours r m at v) m) (pick b (put_word ours r n at v) n)
+          → Written (InPool (Some r)) m n (pick b (put_word ours r m at v) m) (pick b (put_word ours r n at v) n)
       by true v p q = wrote_pool r m n at v p q f
       by false v p q = still
 
-  both_walk : BothWalk (InPool (some r)) m n (walked ours r m a) (walked ours r n a)
+  both_walk : BothWalk (InPool (Some r)) m n (walked ours r m a) (walked ours r n a)
   both_walk =
-      subst (λ (x : Spot). BothWalk (InPool (some r)) m n (walked ours r m a) (walk_from ours r n a x)) (located_same r m n (ours.page r a) (pool_same r m n h))
+      subst (λ (x : Spot). BothWalk (InPool (Some r)) m n (walked ours r m a) (walk_from ours r n a x)) (located_same r m n (ours.page r a) (pool_same r m n h))
       (both_spot (located r m (ours.page r a)) refl)
 
-  both_held : (x : Option Leaf) → BothWalk (InPool (some r)) m n (access_held ours r m a x) (access_held ours r n a x)
-  both_held none = both_walk
-  both_held (some x) = by (dirtied_in (judged r x a))
+  both_held : (x : Option Leaf) → BothWalk (InPool (Some r)) m n (access_held ours r m a x) (access_held ours r n a x)
+  both_held None = both_walk
+  both_held (Some x) = by (dirtied_in (judged r x a))
     where
       by : (b : Bool)
-          → BothWalk (InPool (some r)) m n (pick b (walked ours r m a) (record { reply = answered (judged r x a) 0; memory = m; kept = none }))
-          (pick b (walked ours r n a) (record { reply = answered (judged r x a) 0; memory = n; kept = none }))
+          → BothWalk (InPool (Some r)) m n (pick b (walked ours r m a) (record { reply = answered (judged r x a) 0; memory = m; kept = None }))
+          (pick b (walked ours r n a) (record { reply = answered (judged r x a) 0; memory = n; kept = None }))
       by true = both_walk
       by false = record { reply = refl; kept = refl; memory = still }
 
@@ -213,18 +211,18 @@ store_checks : Regime → ℕ → ℕ → Checked
 store_checks r address k = and_then (first_of (memory_rows k r)) (first_of (store_rows r.pool address))
 
 module _ (m n : List ℕ) where
-  both_access : (r : Regime) (a : Access) (x : Option Leaf) → Same (InPool (some r)) m n → (y : Checked) → access_checks r a (length m) ≡ y
-      → BothWalk (InPool (some r)) m n (access_by ours r m a x y) (access_by ours r n a x y)
+  both_access : (r : Regime) (a : Access) (x : Option Leaf) → Same (InPool (Some r)) m n → (y : Checked) → access_checks r a (length m) ≡ y
+      → BothWalk (InPool (Some r)) m n (access_by ours r m a x y) (access_by ours r n a x y)
   unfolding access_checks
-  both_access r a x h (Refused y) e = record { reply = refl; kept = refl; memory = still }
-  both_access r a x h Accepted e =
+  both_access r a x h (Err y) e = record { reply = refl; kept = refl; memory = still }
+  both_access r a x h (Ok _) e =
       both_held r a m n h (pooled (length m) r (clear (memory_rows (length m) r) (both (first_of (memory_rows (length m) r)) (first_of (access_rows r a)) e).0).0).fits x
 
   both_access_in : (a : Access) (e : Entry) (g : Option Regime) → Same (InPool g) m n → BothWalk (InPool g) m n (access_in ours g m a e) (access_in ours g n a e)
   unfolding access_checks
-  both_access_in a e none h = record { reply = refl; kept = refl; memory = still }
-  both_access_in a e (some r) h =
-      subst (λ (k : ℕ). BothWalk (InPool (some r)) m n (access_in ours (some r) m a e) (access_by ours r n a (held_in e (ours.page r a)) (access_checks r a k))) h.long
+  both_access_in a e None h = record { reply = refl; kept = refl; memory = still }
+  both_access_in a e (Some r) h =
+      subst (λ (k : ℕ). BothWalk (InPool (Some r)) m n (access_in ours (Some r) m a e) (access_by ours r n a (held_in e (ours.page r a)) (access_checks r a k))) h.long
       (both_access r a (held_in e (ours.page r a)) h (access_checks r a (length m)) refl)
 
   -- what two calls leave: the same reply, the same session, and two memories
@@ -243,23 +241,23 @@ module _ (m n : List ℕ) where
         }
 
     both_store : (r : Regime) (address value : ℕ) → (x : Checked) → store_checks r address (length m) ≡ x
-        → Both (InPool (some r)) (stay s (store_by ours r m address value x)) (stay s (store_by ours r n address value x))
+        → Both (InPool (Some r)) (stay s (store_by ours r m address value x)) (stay s (store_by ours r n address value x))
     unfolding store_checks session_store_check
-    both_store r address value (Refused x) e = record { reply = refl; session = refl; memory = still }
-    both_store r address value Accepted e =
+    both_store r address value (Err x) e = record { reply = refl; session = refl; memory = still }
+    both_store r address value (Ok _) e =
         let t = store_accepted (length m) r address (first_append (memory_rows (length m) r) (store_rows r.pool address) ∙ e) in
         record { reply = refl; session = refl; memory = wrote_pool r m n (offset_of r address) value (omega arith) (omega (arith, t.least, t.most)) t.fits }
 
     both_store_in : (address value : ℕ) (g : Option Regime) → Same (InPool g) m n → Both (InPool g) (stay s (store_in ours g m address value)) (stay s (store_in ours g n address value))
     unfolding store_checks
-    both_store_in address value none h = record { reply = refl; session = refl; memory = still }
-    both_store_in address value (some r) h =
-        subst (λ (k : ℕ). Both (InPool (some r)) (stay s (store_in ours (some r) m address value)) (stay s (store_by ours r n address value (store_checks r address k)))) h.long
+    both_store_in address value None h = record { reply = refl; session = refl; memory = still }
+    both_store_in address value (Some r) h =
+        subst (λ (k : ℕ). Both (InPool (Some r)) (stay s (store_in ours (Some r) m address value)) (stay s (store_by ours r n address value (store_checks r address k)))) h.long
         (both_store r address value (store_checks r address (length m)) refl)
 
     both_set : (r : Regime) (x : Checked) → Both (λ (i : ℕ). ⊥) (set_by ours s m r x) (set_by ours s n r x)
-    both_set r Accepted = record { reply = refl; session = refl; memory = still }
-    both_set r (Refused x) = record { reply = refl; session = refl; memory = still }
+    both_set r (Ok _) = record { reply = refl; session = refl; memory = still }
+    both_set r (Err x) = record { reply = refl; session = refl; memory = still }
 
     -- a harvest changes no more than the pool
     harvest_parted : (r : Regime) (first count : ℕ) (l map : List ℕ) → Parted r.pool.start r.pool.length l (harvest_over r first count l map).memory
@@ -268,8 +266,8 @@ module _ (m n : List ℕ) where
 
     both_harvest_in : (first count : ℕ) (map : List ℕ) (g : Option Regime) → Same (InPool g) m n
         → Both (InPool g) (harvest_to ours s (harvest_in ours g first count m map)) (harvest_to ours s (harvest_in ours g first count n map))
-    both_harvest_in first count map none h = record { reply = refl; session = refl; memory = still }
-    both_harvest_in first count map (some r) h =
+    both_harvest_in first count map None h = record { reply = refl; session = refl; memory = still }
+    both_harvest_in first count map (Some r) h =
         let u = unheard r first count m n map h.long (pool_same r m n h) in
         record {
           reply = ap₂ harvest_reply u.reply u.map;
@@ -303,12 +301,12 @@ written_self s m c = (both_call m m s c (same_self (Reach s.regime c) m)).memory
 -- ---- the regime is the one last accepted
 
 set_regime_lem : (s : Session) (m : List ℕ) (r : Regime) (x : Checked) → (set_by ours s m r x).session.regime ≡ regime_after (set_regime r) (set_by ours s m r x).reply s.regime
-set_regime_lem s m r Accepted = refl
-set_regime_lem s m r (Refused x) = refl
+set_regime_lem s m r (Ok _) = refl
+set_regime_lem s m r (Err x) = refl
 
 emptied_regime : (s : Session) (x : Checked) → (emptied_by ours s x).regime ≡ s.regime
-emptied_regime s Accepted = refl
-emptied_regime s (Refused x) = refl
+emptied_regime s (Ok _) = refl
+emptied_regime s (Err x) = refl
 
 regime_after_lem : (s : Session) (m : List ℕ) (c : Call) → (call ours s m c).session.regime ≡ regime_after c (call ours s m c).reply s.regime
 regime_after_lem s m (set_regime r) = set_regime_lem s m r (and_then (first_of (memory_rows (length m) r)) (first_of (setting_rows r)))
@@ -320,7 +318,7 @@ regime_after_lem s m (harvest first count map) = emptied_regime s (harvest_in ou
 -- ---- what an accepted store leaves
 
 -- where a descriptor was stored, a walk reads it
-read_back : (r : Regime) (m : List ℕ) (address value : ℕ) → Storable (length m) r.pool address → value < 2 ^ 64 → reader_of r (put r.ee m (offset_of r address) value) address ≡ Value value
+read_back : (r : Regime) (m : List ℕ) (address value : ℕ) → Storable (length m) r.pool address → value < 2 ^ 64 → reader_of r (put r.ee m (offset_of r address) value) address ≡ Some value
 unfolding fetched
 read_back r m address value t small =
     let base = r.pool.address.0 in
@@ -331,17 +329,17 @@ read_back r m address value t small =
     let l : length pool ≡ n = length_part m r.pool.start n t.fits in
     let long : length (put r.ee pool i value) ≡ n = length_put r.ee pool i value (rw l room) ∙ l in
     rw (part_put r.ee m r.pool.start n i value t.fits room, long, le-leb base address t.least, le-leb (address + 8) (base + n) t.most)
-    (ap Value (desc_put r.ee pool i value (rw l room) small))
+    (ap Some (desc_put r.ee pool i value (rw l room) small))
 
 store_leaves : (r : Regime) (m : List ℕ) (address value : ℕ) (x : Checked) → store_checks r address (length m) ≡ x → (store_by ours r m address value x).reply ≡ done
     → StoredAt r address value m (store_by ours r m address value x).memory
 unfolding store_checks session_store_check
-store_leaves r m address value (Refused x) e q = clash (cc)
-store_leaves r m address value Accepted e q =
+store_leaves r m address value (Err x) e q = clash (cc)
+store_leaves r m address value (Ok _) e q =
     let t = store_accepted (length m) r address (first_append (memory_rows (length m) r) (store_rows r.pool address) ∙ e) in
     subst⁻¹ (λ (left : List ℕ). StoredAt r address value m left) (put_is r m (offset_of r address) value) (record { bytes = refl; read = read_back r m address value t })
 
-call_stores : (s : Session) (m : List ℕ) (c : Call) (r : Regime) (address value : ℕ) → s.regime ≡ some r → c ≡ store address value → (call ours s m c).reply ≡ done
+call_stores : (s : Session) (m : List ℕ) (c : Call) (r : Regime) (address value : ℕ) → s.regime ≡ Some r → c ≡ store address value → (call ours s m c).reply ≡ done
     → StoredAt r address value m (call ours s m c).memory
 unfolding store_checks
 call_stores s m c r address value g q =
@@ -380,12 +378,12 @@ rule_1_call s m c =
 
 -- a refused call leaves the session as it was, each number of it
 set_kept : (s : SessionStruct) (m : List ℕ) (r : Regime) (k : ℕ) (x : Checked) → (set_by ours (session_view s) m r x).reply ≡ refused k → set_after s r x ≡ s
-set_kept s m r k Accepted q = clash (cc)
-set_kept s m r k (Refused x) q = refl
+set_kept s m r k (Ok _) q = clash (cc)
+set_kept s m r k (Err x) q = refl
 
 emptied_kept : (s : SessionStruct) (x : Checked) (map : List ℕ) (k : ℕ) → harvest_reply x map ≡ refused k → emptied_after s x ≡ s
-emptied_kept s Accepted map k q = clash (cc)
-emptied_kept s (Refused x) map k q = refl
+emptied_kept s (Ok _) map k q = clash (cc)
+emptied_kept s (Err x) map k q = refl
 
 struct_kept : (s : SessionStruct) (m : List ℕ) (c : Call) (k : ℕ) → (call ours (session_view s) m c).reply ≡ refused k → session_after s m c ≡ s
 struct_kept s m (set_regime r) k q = set_kept s m r k (regime_check (length m) r) (subst (λ (y : Stepped). y.reply ≡ refused k) (set_checked (session_view s) m r) q)
@@ -399,14 +397,16 @@ struct_kept s m (harvest first count map) k q = emptied_kept s (harvest_of s fir
 struct_same : (s : SessionStruct) (m n : List ℕ) (c : Call) → Same (Reach (regime_held s) c) m n → session_after s m c ≡ session_after s n c
 struct_same s m n (set_regime r) h = ap (λ (k : ℕ). set_after s r (regime_check k r)) h.long
 struct_same s m n (access a) h =
-    ap (λ (k : Option Leaf). with_entry s (number_in s a) (kept_entry (entry_in s a) (page_for (regime_of s.regime) a) k)) (both_access_in m n a (entry_view (entry_in s a)) (regime_held s) h).kept
+    kept_is s m a
+    ∙ ap (λ (k : Option Leaf). with_entry s (number_in s a) (kept_entry (entry_in s a) (page_for (regime_of s.regime) a) k)) (both_access_in m n a (entry_view (entry_in s a)) (regime_held s) h).kept
+    ∙ sym (kept_is s n a)
 struct_same s m n (store address value) h = refl
 struct_same s m n drop_all h = refl
 struct_same s m n (harvest first count map) h = ap (emptied_after s) (reply_same first count map (regime_held s) h)
   where
     reply_same : (first count : ℕ) (map : List ℕ) (g : Option Regime) → Same (InPool g) m n → (harvest_in ours g first count m map).reply ≡ (harvest_in ours g first count n map).reply
-    reply_same first count map none h = refl
-    reply_same first count map (some r) h = (unheard r first count m n map h.long (pool_same r m n h)).reply
+    reply_same first count map None h = refl
+    reply_same first count map (Some r) h = (unheard r first count m n map h.long (pool_same r m n h)).reply
 
 pub rule1_leaves : (F : Functions SessionStruct) → Leaving F → (s : SessionStruct) (m : List ℕ) (c : Call) (x : Handed SessionStruct Reply) → F s m c x
     → Rule1Call regime_held F s m c x

@@ -1,6 +1,5 @@
 -- Calls of a session one after another, by any functions (RULES 11).
-use Rattle.std.specs.Prelude.{ℕ, Bool, true, false, List, [], ◌∷◌, ◌≡◌}
-use Rattle.std.proofs.Math.Option.{Option, none, some}
+use Rattle.std.specs.Prelude.{ℕ, Bool, true, false, List, [], ◌∷◌, ◌≡◌, Option, Some}
 use Rattle.descriptor.specs.Bits.{pick}
 use Rattle.vmsa.specs.declared.Regime.{Regime}
 use Rattle.tlb.specs.Replies.{Reply, done, refused, answered, harvested}
@@ -47,7 +46,7 @@ is_done (answered o n) = false
 is_done (harvested map) = true
 
 abbrev pub regime_after : Call → Reply → Option Regime → Option Regime
-regime_after (set_regime R) reply old = pick (is_done reply) (some R) old
+regime_after (set_regime R) reply old = pick (is_done reply) (Some R) old
 regime_after (access a) reply old = old
 regime_after (store address value) reply old = old
 regime_after drop_all reply old = old

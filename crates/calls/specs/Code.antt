@@ -1,5 +1,5 @@
 -- Rule 1 (RULES 13) of the functions of a session, by value: each call by what the function's own contract tells its caller.
-use Rattle.std.specs.Prelude.{ℕ, List, ◌≡◌}
+use Rattle.std.specs.Prelude.{ℕ, List, ◌≡◌, Err}
 use contract.Lifetimes.{Lfts}
 use denote.Ref.{Bor, MutBor, at_last}
 use Rattle.vmsa.specs.Answers.{view}
@@ -7,11 +7,10 @@ use Rattle.vmsa.specs.declared.Regime.{Regime}
 use Rattle.vmsa.specs.declared.Access.{Access}
 use Rattle.vmsa.specs.declared.PhysAddr.{PhysAddr}
 use Rattle.vmsa.specs.declared.Refusal.{Refusal}
-use Rattle.checks.specs.declared.Checked.TheVariants.{Refused}
 use Rattle.tlb.specs.Replies.{Reply, done, reply_of, reply_to, harvest_reply}
 use Rattle.session.specs.declared.Session.{Session as SessionStruct}
-use Rattle.session.specs.declared.Changed.{Changed}
-use Rattle.session.specs.declared.Accessed.{Accessed}
+use Rattle.session.specs.View.{Changed}
+use Rattle.session.specs.View.{Accessed}
 use Rattle.session.specs.Model.{Handed, handed, Call, set_regime, access, store, drop_all, harvest}
 use Rattle.session.specs.View.{regime_held}
 use Rattle.session.proofs.Session.empty.Reads as Empty
@@ -35,7 +34,7 @@ pub data Made : SessionStruct → List ℕ → Call → Handed SessionStruct Rep
       → Made s memory.now (set_regime r) (handed x.session memory.now (reply_to x.reply))
   accessed : (lives : Lfts 1) (s : SessionStruct) (memory : MutBor (List ℕ)) (a : Access) (after : List ℕ) (x : Accessed)
       → AccessOf.Learnt lives (s, (memory, (a, tt))) x (s, (at_last memory after, (a, tt)))
-      → Made s memory.now (access a) (handed x.session after (reply_of (view x.answer)))
+      → Made s memory.now (access a) (handed x.session after (reply_of (view x.reply)))
   stored : (lives : Lfts 1) (s : SessionStruct) (memory : MutBor (List ℕ)) (address : PhysAddr) (value : ℕ) (after : List ℕ) (x : Changed)
       → Store.Learnt lives (s, (memory, (address, (value, tt)))) x (s, (at_last memory after, (address, (value, tt))))
       → Made s memory.now (store address.0 value) (handed x.session after (reply_to x.reply))
@@ -58,4 +57,4 @@ Rule1OfCode = (s₀ : SessionStruct) (m₀ : List ℕ) (s : SessionStruct) (m : 
 abbrev pub MapKeptOfCode : Type 0
 MapKeptOfCode = (lives : Lfts 2) (s : SessionStruct) (memory : MutBor (List ℕ)) (first count : ℕ) (map : MutBor (List ℕ)) (after filled : List ℕ) (x : Changed)
     → Harvest.Learnt lives (s, (memory, (first, (count, (map, tt))))) x (s, (at_last memory after, (first, (count, (at_last map filled, tt)))))
-    → (y : Refusal) → x.reply ≡ Refused y → filled ≡ map.now
+    → (y : Refusal) → x.reply ≡ Err y → filled ≡ map.now

@@ -1,13 +1,11 @@
 -- Rule 1 (RULES 13) for the calls of a session: any session, any memory, any call; and every list of calls.
 -- That every call gets an answer and ends is the code's contract, which asks nothing of its caller (`..-free` in proofs/Promises.antt of session, lent, capi_walk, capi_session and capi_harvest).
-use Rattle.std.specs.Prelude.{ℕ, ◌+◌, ◌^◌, ◌<◌, ◌≤◌, Bool, true, false, List, [], ◌∷◌, ◌++◌, map, ◌↔◌, ◌≡◌, length, get_or}
-use Rattle.std.proofs.Math.Option.{Option, none, some}
+use Rattle.std.specs.Prelude.{ℕ, ◌+◌, ◌^◌, ◌<◌, ◌≤◌, Bool, true, false, List, [], ◌∷◌, ◌++◌, map, ◌↔◌, ◌≡◌, length, get_or, Option, None, Some}
 use Rattle.descriptor.specs.Bytes.{Bytes, put}
 use Rattle.vmsa.specs.declared.Regime.{Regime}
 use Rattle.vmsa.specs.declared.Refusal.{Refusal}
 use Rattle.vmsa.specs.declared.Refusal.TheVariants.{NoRegime}
 use Rattle.checks.specs.Order.{memory_rows, regime_rows, access_rows, store_rows, harvest_rows}
-use Rattle.lookup.specs.declared.Word.TheVariants.{Value}
 use Rattle.rules.specs.Rule1.{FirstNumber, Managed}
 use Rattle.rules.specs.Tables.{reader_of}
 use Rattle.tlb.specs.Replies.{Reply, done, refused}
@@ -19,8 +17,8 @@ use Rattle.calls.specs.Chains.{Event, event, Functions, Calling, Chain, regime_a
 
 -- refusal 9, and then the rows under the session's regime
 abbrev pub under_regime : Option Regime → (Regime → List (Bool × Refusal)) → List (Bool × Refusal)
-under_regime none rows = (true, NoRegime) ∷ []
-under_regime (some r) rows = (false, NoRegime) ∷ rows r
+under_regime None rows = (true, NoRegime) ∷ []
+under_regime (Some r) rows = (false, NoRegime) ∷ rows r
 
 -- the rows of a call over n bytes of memory in a session with the regime g, in the order of the checks (RULES 5.3)
 abbrev pub rows_of : ℕ → Option Regime → Call → List (Bool × Refusal)
@@ -32,8 +30,8 @@ rows_of n g (harvest first count map) = under_regime g (λ (r : Regime). harvest
 
 -- the bytes of the pool of a session's regime
 abbrev pub InPool : Option Regime → ℕ → Type 0
-InPool none i = ⊥
-InPool (some r) i = (r.pool.start ≤ i) × (i < r.pool.start + r.pool.length)
+InPool None i = ⊥
+InPool (Some r) i = (r.pool.start ≤ i) × (i < r.pool.start + r.pool.length)
 
 -- the bytes that a call may see or change: the pool's for an access, a store and a harvest, none for a set regime and a drop all
 abbrev pub Reach : Option Regime → Call → ℕ → Type 0
@@ -48,7 +46,7 @@ Reach g (harvest first count map) i = InPool g i
 -- what an accepted store leaves: the value at its address, in the byte order of the regime, and every other byte as it was; a walk under that regime reads it there
 pub record StoredAt (r : Regime) (address value : ℕ) (m left : List ℕ) : Type 0 where
   pub bytes : left ≡ put r.ee m (offset_of r address) value
-  pub read : value < 2 ^ 64 → reader_of r left address ≡ Value value
+  pub read : value < 2 ^ 64 → reader_of r left address ≡ Some value
 
 -- what its event shows, g being the session's regime
 pub record Rule1Event (g : Option Regime) (e : Event) : Type 0 where
@@ -61,7 +59,7 @@ pub record Rule1Event (g : Option Regime) (e : Event) : Type 0 where
   pub outside : (i : ℕ) → (Reach g e.made i → ⊥) → get_or e.left i 0 ≡ get_or e.found i 0
   pub bytes : Bytes e.found → Bytes e.left
   -- an accepted store stores what it was given
-  pub stored : (r : Regime) (address value : ℕ) → g ≡ some r → e.made ≡ store address value → e.reply ≡ done → StoredAt r address value e.found e.left
+  pub stored : (r : Regime) (address value : ℕ) → g ≡ Some r → e.made ≡ store address value → e.reply ≡ done → StoredAt r address value e.found e.left
 
 -- two memories of one length with the same bytes at these offsets
 pub record Same (At : ℕ → Type 0) (m n : List ℕ) : Type 0 where
@@ -89,8 +87,8 @@ EachCall g (e ∷ before) = Rule1Event (regime_from g before) e × EachCall g be
 
 -- a session's regime, where it has one, manages dirty state together with the Access flag or not at all
 abbrev pub ManagedIn : Option Regime → Type 0
-ManagedIn none = Unit {0}
-ManagedIn (some r) = Managed r
+ManagedIn None = Unit {0}
+ManagedIn (Some r) = Managed r
 
 -- At holds every byte that the calls of a list reach
 abbrev pub Reaches : (ℕ → Type 0) → Option Regime → List Event → Type 0

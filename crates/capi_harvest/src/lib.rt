@@ -23,8 +23,7 @@ pub extern "C" fn vmsa_harvest(
 ) -> u8
     ensures { harvested result memory.new map.new ≡ harvest_numbered (harvest_of (regime_of regime.now) first count memory.old map.old) }
 {
-    let regime = *regime;
-    words::harvest_words(memory, regime, first, count, map)
+    words::refusal_byte(words::harvest_words(memory, *regime, first, count, map))
 }
 
 // The same in the lent session, whose entries are emptied: 0, or the number of the refusal.
@@ -38,16 +37,8 @@ pub extern "C" fn vmsa_session_harvest(
 ) -> u8
     ensures { (session.new, harvested result memory.new map.new) ≡ harvest_replied (harvest_leaves session.old first count memory.old map.old) }
 {
-    let refusal = words::session_harvest_words(
-        session.regime,
-        session.set,
-        memory,
-        first,
-        count,
-        map,
-    );
-    if refusal != 0 {
-        return refusal;
+    if let Err(refusal) = session::harvest_in(session.regime_held(), memory, first, count, map) {
+        return refusal.number();
     }
     let entry = Entry::empty();
     session.entries = [entry; ENTRIES];

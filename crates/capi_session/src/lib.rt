@@ -22,6 +22,7 @@ pub extern "C" fn vmsa_session_empty(session: &mut Session)
 }
 
 // Sets the regime of the lent session: 0, or the number of the refusal.
+#[tactic(auto, using(words::proofs::Reply::set_refused, words::proofs::Reply::set_accepted))]
 #[unsafe(no_mangle)]
 pub extern "C" fn vmsa_session_set_regime(
     session: &mut Session,
@@ -31,12 +32,12 @@ pub extern "C" fn vmsa_session_set_regime(
     ensures { handed session.new memory.now result ≡ replied refusal_byte (leaves session.old memory.now (set_regime (regime_of regime.now))) }
 {
     let regime = *regime;
-    let x = words::set_words(memory.len(), regime);
-    if x.refusal != 0 {
-        return x.refusal;
-    }
+    let regime = match words::set_words(memory.len(), regime) {
+        Err(refusal) => return refusal.number(),
+        Ok(regime) => regime,
+    };
     let entry = Entry::empty();
-    session.regime = x.regime;
+    session.regime = regime;
     session.entries = [entry; ENTRIES];
     session.set = 1;
     session.spare8 = 0;
@@ -46,6 +47,7 @@ pub extern "C" fn vmsa_session_set_regime(
 }
 
 // An access in the lent session and memory; its answer is written to the lent struct.
+#[tactic(auto, using(words::proofs::Reply::hit_at, words::proofs::Reply::walk_free, words::proofs::Reply::walk_at))]
 #[unsafe(no_mangle)]
 pub extern "C" fn vmsa_session_access(
     session: &mut Session,
@@ -58,9 +60,8 @@ pub extern "C" fn vmsa_session_access(
     let access = *access;
     let i = words::entry_of(session.regime, access);
     let entry = session.entries[i];
-    let hit = words::hit_entry(session.regime, session.set, entry, memory.len(), access);
-    if hit.hit {
-        *answer = hit.answer;
+    if let Some(hit) = words::hit_entry(session.regime_held(), entry, memory.len(), access) {
+        *answer = hit;
         return;
     }
     // read again, so that a hit does not pay for what only the longer way needs
@@ -80,7 +81,7 @@ pub extern "C" fn vmsa_session_store(
 ) -> u8
     ensures { handed session.new memory.new result ≡ replied refusal_byte (leaves session.old memory.old (store address value)) }
 {
-    words::store_words(session.regime, session.set, memory, address, value)
+    words::refusal_byte(words::store_words(session.regime_held(), memory, address, value))
 }
 
 // Empties every entry of the lent session.

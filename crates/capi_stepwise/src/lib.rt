@@ -2,8 +2,7 @@
 // Nothing that a caller passes is out of contract but a bad pointer, or two that overlap.
 #![tactic(auto)]
 
-ghost use Rattle.std.specs.Prelude.{◌≡◌};
-ghost use Rattle.lookup.specs.declared.Word.TheVariants.{Unreachable};
+ghost use Rattle.std.specs.Prelude.{◌≡◌, None};
 ghost use Rattle.step_words.specs.Words.{start_words, offer_words, offer_gives};
 
 use step_words::StepwiseWords;
@@ -27,10 +26,14 @@ pub extern "C" fn vmsa_stepwise_start(
 // Says that the descriptor that the lent walk wants is not reachable: 0, or 12 after the end.
 #[unsafe(no_mangle)]
 pub extern "C" fn vmsa_stepwise_unreachable(walk: &mut StepwiseWords) -> u8
-    ensures { offer_gives result walk.new ≡ offer_words walk.old Unreachable }
+    ensures { offer_gives result walk.new ≡ offer_words walk.old None }
 {
     let before = *walk;
-    let offered = step_words::unreachable_words(before);
-    *walk = offered.walk;
-    offered.refusal
+    match step_words::offer_words(before, None) {
+        Err(refusal) => refusal.number(),
+        Ok(after) => {
+            *walk = after;
+            0
+        }
+    }
 }

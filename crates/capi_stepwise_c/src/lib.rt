@@ -1,8 +1,7 @@
 // The static library of capi_stepwise: its functions, exported to C with their contracts.
 #![tactic(auto)]
 
-ghost use Rattle.std.specs.Prelude.{◌≡◌};
-ghost use Rattle.lookup.specs.declared.Word.TheVariants.{Unreachable};
+ghost use Rattle.std.specs.Prelude.{◌≡◌, None};
 ghost use Rattle.step_words.specs.Words.{start_words, offer_words, offer_gives};
 
 use step_words::StepwiseWords;
@@ -24,7 +23,7 @@ pub extern "C" fn vmsa_stepwise_start(
 // Says that the descriptor that the lent walk wants is not reachable: 0, or 12 after the end.
 #[unsafe(no_mangle)]
 pub extern "C" fn vmsa_stepwise_unreachable(walk: &mut StepwiseWords) -> u8
-    ensures { offer_gives result walk.new ≡ offer_words walk.old Unreachable }
+    ensures { offer_gives result walk.new ≡ offer_words walk.old None }
 {
     capi_stepwise::vmsa_stepwise_unreachable(walk)
 }

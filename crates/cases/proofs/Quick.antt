@@ -7,11 +7,9 @@ use Rattle.descriptor.specs.Bits.{pick}
 use Rattle.vmsa.specs.Answers.{refused, number_of}
 use Rattle.vmsa.specs.declared.Regime.{Regime}
 use Rattle.vmsa.specs.declared.Access.{Access}
-use Rattle.checks.specs.declared.Checked.{Checked}
-use Rattle.checks.specs.declared.Checked.TheVariants.{Accepted, Refused}
+use Rattle.checks.specs.Order.{Checked}
+use Rattle.std.specs.Prelude.{Ok, Err, Option, Some, None}
 use Rattle.checks.specs.Order.{walk_check}
-use Rattle.lookup.specs.declared.Word.{Word}
-use Rattle.lookup.specs.declared.Word.TheVariants.{Value, Unreachable}
 use Rattle.lookup.specs.Steps.{fetched, locate}
 use Rattle.walk.specs.Walk.{Outcome, walk_along}
 use Rattle.cases.specs.Cases.{memory_of}
@@ -30,16 +28,16 @@ value_at [] i v = v
 value_at (d ∷ ds) i v = value_at ds i (pick (eqb d.0 i) d.1 v)
 
 -- the quick reader; at an address that is no multiple of 8 it is the reader itself
-unfoldable pub quick : Bool → ℕ → List (ℕ × ℕ) → ℕ → ℕ → Word
+unfoldable pub quick : Bool → ℕ → List (ℕ × ℕ) → ℕ → ℕ → Option ℕ
 quick ee n ds base a =
     pick (leb base a && leb (a + 8) (base + n))
-    (pick (eqb ((a - base) % 8) 0) (Value (value_at ds (a - base) 0)) (fetched ee (memory_of ee n ds) base a))
-    Unreachable
+    (pick (eqb ((a - base) % 8) 0) (Some (value_at ds (a - base) 0)) (fetched ee (memory_of ee n ds) base a))
+    None
 
 -- a refusal over this memory, or else this outcome
 abbrev pub unless : List ℕ → Outcome → Checked → Outcome
-unless memory o (Refused x) = record { result = refused (number_of x); bytes = memory }
-unless memory o Accepted = o
+unless memory o (Err x) = record { result = refused (number_of x); bytes = memory }
+unless memory o (Ok _) = o
 
 unfoldable pub quick_walk : ℕ → List (ℕ × ℕ) → Regime → Access → Outcome
 quick_walk n ds r a =

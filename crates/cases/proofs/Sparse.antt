@@ -3,24 +3,21 @@ use Prim.Native.Nat.{ℕ, ◌+◌, ◌-◌, ◌%◌, ◌^◌, ◌≤◌, ◌<◌
 use mathlib.Core.Bool.{Bool, true, false, ◌&&◌}
 use mathlib.Core.Path.{◌≡◌, refl, sym, ap, ◌∙◌, fun_ext}
 use mathlib.Core.List.{List, [], ◌∷◌, ◌++◌, append-nil}
-use mathlib.Core.Logic.{◌⊎◌, inl, inr}
 use native.Mathlib.Omega.{arith}
 use native.Mathlib.Nat.{zero-add}
 use lib.Dec.{leb, ltb, eqb}
 use lib.ListN.{replicate, length, take, drop, length-replicate, replicate-append-replicate}
 use lib.Seq.{take-length, drop-length, take_at, drop_at}
-use borrow.Author.Tests.{eqb-true, eqb-false, leb-true, ltb-true, ltb-false}
+use borrow.Author.Tests.{eqb-true, leb-true, ltb-true}
 use Rattle.descriptor.specs.Bytes.{number, in_order, value_of, desc, put}
 use Rattle.descriptor.specs.Bits.{pick}
 use Rattle.descriptor.proofs.Laws.{length_put, desc_put_aligned}
 use Rattle.descriptor.proofs.Tests.{and_true}
 use Rattle.vmsa.specs.declared.Regime.{Regime}
 use Rattle.vmsa.specs.declared.Access.{Access}
-use Rattle.checks.specs.declared.Checked.{Checked}
-use Rattle.checks.specs.declared.Checked.TheVariants.{Accepted, Refused}
+use Rattle.checks.specs.Order.{Checked}
+use Rattle.std.specs.Prelude.{Ok, Err, Option, Some, None}
 use Rattle.checks.specs.Order.{walk_check}
-use Rattle.lookup.specs.declared.Word.{Word}
-use Rattle.lookup.specs.declared.Word.TheVariants.{Value, Unreachable}
 use Rattle.lookup.specs.Steps.{fetched, pool_reader, locate}
 use Rattle.walk.specs.Walk.{Outcome, traced, walk_along, walk_pool, checked, walk}
 use Rattle.cases.specs.Cases.{puts, memory_of}
@@ -98,7 +95,7 @@ module _ (ee : Bool) (n : ℕ) (ds : List (ℕ × ℕ)) (ok : all_placed n ds �
   memory_desc j a h = puts_desc ee n (zeros n) ds j (zeros_length n) ok a h ∙ ap (value_at ds j) (zero_desc ee n j h)
 
   within : (base x : ℕ) (b : Bool) → (leb base x && leb (x + 8) (base + n)) ≡ b
-      → fetched ee (memory_of ee n ds) base x ≡ pick b (Value (desc ee (memory_of ee n ds) (x - base))) Unreachable
+      → fetched ee (memory_of ee n ds) base x ≡ pick b (Some (desc ee (memory_of ee n ds) (x - base))) None
   unfolding fetched
   within base x b e = rw (memory_length, e)
 
@@ -106,15 +103,15 @@ module _ (ee : Bool) (n : ℕ) (ds : List (ℕ × ℕ)) (ok : all_placed n ds �
   unfolding quick
   same_word base x = by (leb base x && leb (x + 8) (base + n)) refl
     where
-      real : Word
+      real : Option ℕ
       real = fetched ee (memory_of ee n ds) base x
 
-      aligned : (b : Bool) → eqb ((x - base) % 8) 0 ≡ b → (x - base) + 8 ≤ n → real ≡ Value (desc ee (memory_of ee n ds) (x - base))
-          → real ≡ pick b (Value (value_at ds (x - base) 0)) real
-      aligned true e h q = q ∙ ap Value (memory_desc (x - base) (eqb-true ((x - base) % 8) 0 e) h)
+      aligned : (b : Bool) → eqb ((x - base) % 8) 0 ≡ b → (x - base) + 8 ≤ n → real ≡ Some (desc ee (memory_of ee n ds) (x - base))
+          → real ≡ pick b (Some (value_at ds (x - base) 0)) real
+      aligned true e h q = q ∙ ap Some (memory_desc (x - base) (eqb-true ((x - base) % 8) 0 e) h)
       aligned false e h q = refl
 
-      by : (b : Bool) → (leb base x && leb (x + 8) (base + n)) ≡ b → real ≡ pick b (pick (eqb ((x - base) % 8) 0) (Value (value_at ds (x - base) 0)) real) Unreachable
+      by : (b : Bool) → (leb base x && leb (x + 8) (base + n)) ≡ b → real ≡ pick b (pick (eqb ((x - base) % 8) 0) (Some (value_at ds (x - base) 0)) real) None
       by true e =
           let s = and_true (leb base x) (leb (x + 8) (base + n)) e in
           let p : base ≤ x = leb-true base x s.0 in
@@ -133,8 +130,8 @@ whole : (m : List ℕ) (w : List ℕ → Outcome) (s l : ℕ) → s ≡ 0 → l 
 whole m w s l p q = rw (p, q, take-length m, zero-add (length m), drop-length m, append-nil (w m).bytes)
 
 over_whole : (r : Regime) (a : Access) (m : List ℕ) (c : Checked) → r.pool.start ≡ 0 → r.pool.length ≡ length m → checked (walk_pool r a) r.pool m c ≡ unless m (walk_pool r a m) c
-over_whole r a m (Refused x) s l = refl
-over_whole r a m Accepted s l = whole m (walk_pool r a) r.pool.start r.pool.length s l
+over_whole r a m (Err x) s l = refl
+over_whole r a m (Ok _) s l = whole m (walk_pool r a) r.pool.start r.pool.length s l
 
 along : (r : Regime) (a : Access) (pool : List ℕ) → walk_pool r a pool ≡ walk_along r a pool (locate r (pool_reader r pool) a.address.0)
 unfolding walk_pool traced
@@ -144,7 +141,7 @@ along r a pool = refl
 pub traced_quick : (r : Regime) (a : ℕ) (ds : List (ℕ × ℕ)) → all_placed r.pool.length ds ≡ true
     → traced r (memory_of r.ee r.pool.length ds) a ≡ locate r (quick r.ee r.pool.length ds r.pool.address.0) a
 unfolding traced
-traced_quick r a ds ok = ap (λ (read : ℕ → Word). locate r read a) (same_reader r.ee r.pool.length ds ok r.pool.address.0)
+traced_quick r a ds ok = ap (λ (read : ℕ → Option ℕ). locate r read a) (same_reader r.ee r.pool.length ds ok r.pool.address.0)
 
 pub walk_quick : (r : Regime) (a : Access) (ds : List (ℕ × ℕ)) → r.pool.start ≡ 0 → all_placed r.pool.length ds ≡ true
     → walk r a (memory_of r.ee r.pool.length ds) ≡ quick_walk r.pool.length ds r a

@@ -1,5 +1,5 @@
 -- The worked cases P1 to P12 as one table under one claim (RULES 12).
-use Rattle.std.specs.Prelude.{ℕ, ◌+◌, ◌*◌, ◌-◌, Bool, true, false, List, [], ◌∷◌, ◌++◌, ◌≡◌, length, replicate, take, drop}
+use Rattle.std.specs.Prelude.{ℕ, ◌+◌, ◌*◌, ◌-◌, Bool, true, false, List, [], ◌∷◌, ◌++◌, ◌≡◌, length, replicate, take, drop, Ok, Err}
 use Rattle.descriptor.specs.Bytes.{put}
 use Rattle.vmsa.specs.Answers.{Result, success, fault, refused}
 use Rattle.vmsa.specs.Settings.{disabled_range, with_pool, with_range0, with_range1, with_hpd0, with_hpd1, with_output, with_ha, with_hd, with_wxn, with_ee, with_granule, with_attributes}
@@ -12,7 +12,6 @@ use Rattle.vmsa.specs.declared.Access.{Access}
 use Rattle.vmsa.specs.declared.AccessKind.{AccessKind}
 use Rattle.vmsa.specs.declared.AccessKind.TheVariants.{Read, Write, Fetch, ProbeWrite}
 use Rattle.vmsa.specs.declared.Refusal.TheVariants.{MemoryPool}
-use Rattle.checks.specs.declared.Checked.TheVariants.{Accepted, Refused}
 use Rattle.checks.specs.Order.{walk_check}
 use Rattle.walk.specs.Walk.{Outcome, traced, walk}
 
@@ -429,9 +428,9 @@ Worked =
     × (first_bytes (read_swapped base) ≡ 0x00 ∷ 0x00 ∷ 0x00 ∷ 0x00 ∷ 0x40 ∷ 0x00 ∷ 0x10 ∷ 0x03 ∷ [])
     × (visited_in (with_third 0x4000F003) ≡ 0x40000000 ∷ 0x40001000 ∷ 0x40002010 ∷ 0x4000F018 ∷ [])
     × (visited_in (with_third 0x40010003) ≡ 0x40000000 ∷ 0x40001000 ∷ 0x40002010 ∷ 0x40010018 ∷ [])
-    × (walk_check 16777216 base (usual Read) ≡ Accepted)
-    × (walk_check 16777217 base (usual Read) ≡ Refused MemoryPool)
-    × (walk_check 16777216 (with_range1 (with_range0 (with_pool (granuled Kib16 16) (moved_pool 16384 81920 0x40004000)) (range_of 16 0x40004000)) (range_of 16 0x4000C000)) (usual Read) ≡ Accepted)
-    × (walk_check 16777216 (with_pool (granuled Kib16 16) (moved_pool 4096 65536 pool_address)) (usual Read) ≡ Refused MemoryPool)
-    × (walk_check 16777216 (with_pool (granuled Kib64 16) (moved_pool 65536 65536 pool_address)) (usual Read) ≡ Accepted)
-    × (walk_check 16777216 (with_pool (granuled Kib64 16) (moved_pool 16384 65536 pool_address)) (usual Read) ≡ Refused MemoryPool)
+    × (walk_check 16777216 base (usual Read) ≡ Ok tt)
+    × (walk_check 16777217 base (usual Read) ≡ Err MemoryPool)
+    × (walk_check 16777216 (with_range1 (with_range0 (with_pool (granuled Kib16 16) (moved_pool 16384 81920 0x40004000)) (range_of 16 0x40004000)) (range_of 16 0x4000C000)) (usual Read) ≡ Ok tt)
+    × (walk_check 16777216 (with_pool (granuled Kib16 16) (moved_pool 4096 65536 pool_address)) (usual Read) ≡ Err MemoryPool)
+    × (walk_check 16777216 (with_pool (granuled Kib64 16) (moved_pool 65536 65536 pool_address)) (usual Read) ≡ Ok tt)
+    × (walk_check 16777216 (with_pool (granuled Kib64 16) (moved_pool 16384 65536 pool_address)) (usual Read) ≡ Err MemoryPool)

@@ -14,10 +14,10 @@ use Rattle.vmsa.specs.Kinds.{is_fetch, is_probe}
 use Rattle.vmsa.specs.declared.Regime.{Regime}
 use Rattle.vmsa.specs.declared.Access.{Access}
 use Rattle.vmsa.specs.declared.Refusal.{Refusal}
-use Rattle.checks.specs.declared.Checked.TheVariants.{Accepted, Refused}
+use Rattle.std.specs.Prelude.{Ok, Err}
 use Rattle.bitmap.specs.Map.{bytes_for}
 use Rattle.refusals.specs.Tests.{memory_pool_bad, pool_address_bad, tsz_bad, sizes_bad, root_bad, roots_bad, dirty_state_bad, size_bad, access_size_bad, last_byte, crossing, in_range0, in_range1, page_range_bad, map_length_bad}
-use Rattle.checks.specs.Order.{first_of, regime_rows, access_rows, walk_rows, start_rows, regime_check, access_check, walk_check, start_check, asked_rows, asked_check, harvest_check}
+use Rattle.checks.specs.Order.{Checked, first_of, regime_rows, access_rows, walk_rows, start_rows, regime_check, access_check, walk_check, start_check, asked_rows, asked_check, harvest_check}
 use Rattle.checks.proofs.Rows.{both, harvest_apart}
 
 -- no test of the rows applies
@@ -25,15 +25,15 @@ abbrev pub Clear : List (Bool × Refusal) → Type 0
 Clear [] = Unit {0}
 Clear (row ∷ rows) = (row.0 ≡ false) × Clear rows
 
-never : (x : Refusal) → Refused x ≡ Accepted → ⊥
+never : (x : Refusal) → ◌≡◌ {A = Checked} (Err x) (Ok tt) → ⊥
 never x e = let z : ◌≡◌ {A = ℕ} 0 1 = cc in omega arith
 
 -- where the rows refuse nothing, none of their tests applies
-pub clear : (rows : List (Bool × Refusal)) → first_of rows ≡ Accepted → Clear rows
+pub clear : (rows : List (Bool × Refusal)) → first_of rows ≡ Ok tt → Clear rows
 clear [] e = tt
 clear (row ∷ rows) e = by row.0 refl (clear rows)
   where
-    by : (b : Bool) → row.0 ≡ b → (first_of rows ≡ Accepted → Clear rows) → (row.0 ≡ false) × Clear rows
+    by : (b : Bool) → row.0 ≡ b → (first_of rows ≡ Ok tt → Clear rows) → (row.0 ≡ false) × Clear rows
     by true h rest = absurd (never row.1 (rw h at e))
     by false h rest = (h, rest (rw h at e))
 
@@ -153,24 +153,24 @@ settled_by n r e1 e2 e3 e4 e13 =
     }
 
 -- a regime that is accepted
-pub settled : (n : ℕ) (r : Regime) → regime_check n r ≡ Accepted → Settled n r
+pub settled : (n : ℕ) (r : Regime) → regime_check n r ≡ Ok tt → Settled n r
 unfolding regime_check
 settled n r e = let c = clear (regime_rows n r) e in settled_by n r c.0 c.1.0 c.1.1.0 c.1.1.1.0 c.1.1.1.1.1.0
 
 -- an access that is accepted
-pub access_shaped : (r : Regime) (a : Access) → access_check r a ≡ Accepted → Shaped r a
+pub access_shaped : (r : Regime) (a : Access) → access_check r a ≡ Ok tt → Shaped r a
 unfolding access_check
 access_shaped r a e = let c = clear (access_rows r a) e in shaped r a c.0 c.1.0
 
 -- a plain walk that is accepted
-pub walk_accepted : (n : ℕ) (r : Regime) (a : Access) → walk_check n r a ≡ Accepted → Settled n r × Shaped r a
+pub walk_accepted : (n : ℕ) (r : Regime) (a : Access) → walk_check n r a ≡ Ok tt → Settled n r × Shaped r a
 unfolding walk_check
 walk_accepted n r a e =
     let c = clear (walk_rows n r a) e in
     (settled_by n r c.0 c.1.0 c.1.1.0 c.1.1.1.0 c.1.1.1.1.1.0, shaped r a c.1.1.1.1.1.1.0 c.1.1.1.1.1.1.1.0)
 
 -- a walk a descriptor at a time that is accepted
-pub start_accepted : (r : Regime) (a : Access) → start_check r a ≡ Accepted → Sized r × Shaped r a
+pub start_accepted : (r : Regime) (a : Access) → start_check r a ≡ Ok tt → Sized r × Shaped r a
 unfolding start_check
 start_accepted r a e =
     let c = clear (start_rows r a) e in
@@ -196,11 +196,11 @@ pub map_room : (count bytes : ℕ) → map_length_bad count bytes ≡ false → 
 unfolding map_length_bad
 map_room count bytes e = ltb-false bytes (bytes_for count) e
 
-pub asked_accepted : (r : Regime) (first count bytes : ℕ) → asked_check r first count bytes ≡ Accepted → Ranged r first count × (bytes_for count ≤ bytes)
+pub asked_accepted : (r : Regime) (first count bytes : ℕ) → asked_check r first count bytes ≡ Ok tt → Ranged r first count × (bytes_for count ≤ bytes)
 unfolding asked_check
 asked_accepted r first count bytes e = let c = clear (asked_rows r first count bytes) e in (ranged r first count c.0, map_room count bytes c.1.0)
 
 -- a harvest that is accepted
-pub harvest_accepted : (n : ℕ) (r : Regime) (first count bytes : ℕ) → harvest_check n r first count bytes ≡ Accepted
-    → (regime_check n r ≡ Accepted) × (asked_check r first count bytes ≡ Accepted)
+pub harvest_accepted : (n : ℕ) (r : Regime) (first count bytes : ℕ) → harvest_check n r first count bytes ≡ Ok tt
+    → (regime_check n r ≡ Ok tt) × (asked_check r first count bytes ≡ Ok tt)
 harvest_accepted n r first count bytes e = both (regime_check n r) (asked_check r first count bytes) (sym (harvest_apart n r first count bytes) ∙ e)

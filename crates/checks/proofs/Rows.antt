@@ -5,8 +5,8 @@ use mathlib.Core.List.{List, [], ◌∷◌, ◌++◌}
 use mathlib.Core.Path.{◌≡◌, refl}
 use Rattle.descriptor.specs.Bits.{pick}
 use Rattle.vmsa.specs.declared.Refusal.{Refusal}
-use Rattle.checks.specs.declared.Checked.{Checked}
-use Rattle.checks.specs.declared.Checked.TheVariants.{Accepted, Refused}
+use Rattle.checks.specs.Order.{Checked}
+use Rattle.std.specs.Prelude.{Ok, Err}
 use Rattle.vmsa.specs.declared.Regime.{Regime}
 use Rattle.vmsa.specs.declared.Access.{Access}
 use Rattle.refusals.specs.Tests.{memory_pool_bad, pool_address_bad}
@@ -16,13 +16,13 @@ pub first_append : (xs ys : List (Bool × Refusal)) → first_of (xs ++ ys) ≡ 
 first_append [] ys = refl
 first_append (row ∷ xs) ys = by row.0 (first_append xs ys)
   where
-    by : (b : Bool) → first_of (xs ++ ys) ≡ and_then (first_of xs) (first_of ys) → pick b (Refused row.1) (first_of (xs ++ ys)) ≡ and_then (pick b (Refused row.1) (first_of xs)) (first_of ys)
+    by : (b : Bool) → first_of (xs ++ ys) ≡ and_then (first_of xs) (first_of ys) → pick b (Err row.1) (first_of (xs ++ ys)) ≡ and_then (pick b (Err row.1) (first_of xs)) (first_of ys)
     by true e = refl
     by false e = e
 
-pub both : (x y : Checked) → and_then x y ≡ Accepted → (x ≡ Accepted) × (y ≡ Accepted)
-both Accepted y q = (refl, q)
-both (Refused x) y q = (cc, cc)
+pub both : (x y : Checked) → and_then x y ≡ Ok tt → (x ≡ Ok tt) × (y ≡ Ok tt)
+both (Ok _) y q = (refl, q)
+both (Err x) y q = (cc, cc)
 
 -- a plain walk checks its regime, and then its access
 pub walk_apart : (n : ℕ) (r : Regime) (a : Access) → walk_check n r a ≡ and_then (regime_check n r) (access_check r a)

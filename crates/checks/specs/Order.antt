@@ -1,27 +1,29 @@
 -- The order in which a call is checked: the first test that applies gives the refusal (RULES 5.3).
-use Rattle.std.specs.Prelude.{ℕ, Bool, List, [], ◌∷◌, ◌++◌}
+use Rattle.std.specs.Prelude.{ℕ, Bool, List, [], ◌∷◌, ◌++◌, Ok, Err, Result, ⊤}
 use Rattle.descriptor.specs.Bits.{pick}
 use Rattle.vmsa.specs.declared.Regime.{Regime}
 use Rattle.vmsa.specs.declared.Pool.{Pool}
 use Rattle.vmsa.specs.declared.Access.{Access}
 use Rattle.vmsa.specs.declared.Refusal.{Refusal}
 use Rattle.vmsa.specs.declared.Refusal.TheVariants.{MemoryPool, PoolAddress, Sizes, Root, Attributes, DirtyState, AccessSize, PageCrossing, StoreAddress, PageRange, MapLength}
-use Rattle.checks.specs.declared.Checked.{Checked}
-use Rattle.checks.specs.declared.Checked.TheVariants.{Accepted, Refused}
 use Rattle.refusals.specs.Tests.{memory_pool_bad, pool_address_bad, sizes_bad, roots_bad, attributes_bad, dirty_state_bad, access_size_bad, crossing, store_address_bad, page_range_bad, map_length_bad}
+
+-- what the checks of a call say: it is accepted, or refused
+abbrev pub Checked : Type 0
+Checked = Result ⊤ Refusal
 
 -- the refusal of the first test that applies, or else what the rest says
 abbrev pub first_before : List (Bool × Refusal) → Checked → Checked
 first_before [] rest = rest
-first_before (row ∷ rows) rest = pick row.0 (Refused row.1) (first_before rows rest)
+first_before (row ∷ rows) rest = pick row.0 (Err row.1) (first_before rows rest)
 
 abbrev pub first_of : List (Bool × Refusal) → Checked
-first_of rows = first_before rows Accepted
+first_of rows = first_before rows (Ok tt)
 
 -- one check, and then another
 abbrev pub and_then : Checked → Checked → Checked
-and_then Accepted next = next
-and_then (Refused x) next = Refused x
+and_then (Ok _) next = next
+and_then (Err x) next = Err x
 
 -- the memory and the pool
 abbrev pub memory_rows : ℕ → Regime → List (Bool × Refusal)

@@ -11,125 +11,129 @@ use refusals::{
 };
 use vmsa::{Access, PhysAddr, Refusal, Regime};
 
-// What the checks of a call say.
-#[derive(Clone, Copy)]
-pub enum Checked {
-    Accepted,
-    Refused(Refusal),
-}
-
 // The settings of a regime that do not speak of its pool.
-fn check_tables(r: Regime) -> Checked
+#[tactic(auto, unfolding(crate::specs::Order::tables_check))]
+fn check_tables(r: Regime) -> Result<(), Refusal>
     ensures { result ≡ tables_check r }
 {
     if sizes_bad(r) {
-        return Checked::Refused(Refusal::Sizes);
+        return Err(Refusal::Sizes);
     }
     if roots_bad(r) {
-        return Checked::Refused(Refusal::Root);
+        return Err(Refusal::Root);
     }
     if attributes_bad(r.attributes) {
-        return Checked::Refused(Refusal::Attributes);
+        return Err(Refusal::Attributes);
     }
     if dirty_state_bad(r) {
-        return Checked::Refused(Refusal::DirtyState);
+        return Err(Refusal::DirtyState);
     }
-    Checked::Accepted
+    Ok(())
 }
 
 // Setting a regime over a memory of n bytes.
-pub fn check_regime(n: usize, r: Regime) -> Checked
+#[tactic(auto, unfolding(crate::specs::Order::regime_check, crate::specs::Order::tables_check))]
+pub fn check_regime(n: usize, r: Regime) -> Result<(), Refusal>
     ensures { result ≡ regime_check n r }
 {
     if memory_pool_bad(n, r) {
-        return Checked::Refused(Refusal::MemoryPool);
+        return Err(Refusal::MemoryPool);
     }
     if pool_address_bad(r) {
-        return Checked::Refused(Refusal::PoolAddress);
+        return Err(Refusal::PoolAddress);
     }
     check_tables(r)
 }
 
 // An access by itself, under a regime.
-pub fn check_access(r: Regime, a: Access) -> Checked
+#[tactic(auto, unfolding(crate::specs::Order::access_check))]
+pub fn check_access(r: Regime, a: Access) -> Result<(), Refusal>
     ensures { result ≡ access_check r a }
 {
     if access_size_bad(a) {
-        return Checked::Refused(Refusal::AccessSize);
+        return Err(Refusal::AccessSize);
     }
     if crosses(r, a) {
-        return Checked::Refused(Refusal::PageCrossing);
+        return Err(Refusal::PageCrossing);
     }
-    Checked::Accepted
+    Ok(())
 }
 
 // One check, and then an access by itself.
-fn then_access(first: Checked, r: Regime, a: Access) -> Checked
+fn then_access(first: Result<(), Refusal>, r: Regime, a: Access) -> Result<(), Refusal>
     ensures { result ≡ and_then first (access_check r a) }
 {
-    match first {
-        Checked::Refused(refusal) => Checked::Refused(refusal),
-        Checked::Accepted => check_access(r, a),
-    }
+    first?;
+    check_access(r, a)
 }
 
 // A plain walk over a memory of n bytes.
-pub fn check_walk(n: usize, r: Regime, a: Access) -> Checked
+#[tactic(auto, using(crate::proofs::Rows::walk_apart))]
+pub fn check_walk(n: usize, r: Regime, a: Access) -> Result<(), Refusal>
     ensures { result ≡ walk_check n r a }
 {
     then_access(check_regime(n, r), r, a)
 }
 
 // A walk a descriptor at a time.
-pub fn check_start(r: Regime, a: Access) -> Checked
+#[tactic(auto, using(crate::proofs::Rows::start_apart))]
+pub fn check_start(r: Regime, a: Access) -> Result<(), Refusal>
     ensures { result ≡ start_check r a }
 {
     then_access(check_tables(r), r, a)
 }
 
 // The pages of a harvest, under a regime, and its map of so many bytes.
-fn check_asked(r: Regime, first: u64, count: u64, bytes: usize) -> Checked
+#[tactic(auto, unfolding(crate::specs::Order::asked_check))]
+fn check_asked(r: Regime, first: u64, count: u64, bytes: usize) -> Result<(), Refusal>
     requires { Sized r }
     ensures { result ≡ asked_check r first count bytes }
 {
     if page_range_bad(r, first, count) {
-        return Checked::Refused(Refusal::PageRange);
+        return Err(Refusal::PageRange);
     }
     if map_length_bad(count, bytes) {
-        return Checked::Refused(Refusal::MapLength);
+        return Err(Refusal::MapLength);
     }
-    Checked::Accepted
+    Ok(())
 }
 
 // A harvest over a memory of n bytes, with a map of so many bytes.
-pub fn check_harvest(n: usize, r: Regime, first: u64, count: u64, bytes: usize) -> Checked
+#[tactic(auto, using(crate::proofs::Rows::harvest_apart, crate::proofs::Accept::settled))]
+pub fn check_harvest(
+    n: usize,
+    r: Regime,
+    first: u64,
+    count: u64,
+    bytes: usize,
+) -> Result<(), Refusal>
     ensures { result ≡ harvest_check n r first count bytes }
 {
-    match check_regime(n, r) {
-        Checked::Refused(refusal) => Checked::Refused(refusal),
-        Checked::Accepted => check_asked(r, first, count, bytes),
-    }
+    check_regime(n, r)?;
+    check_asked(r, first, count, bytes)
 }
 
 // An access in a session that has a regime, over a memory of n bytes.
-pub fn check_session_access(n: usize, r: Regime, a: Access) -> Checked
+#[tactic(auto, unfolding(crate::specs::Order::session_access_check, crate::specs::Order::access_check))]
+pub fn check_session_access(n: usize, r: Regime, a: Access) -> Result<(), Refusal>
     ensures { result ≡ session_access_check n r a }
 {
     if memory_pool_bad(n, r) {
-        return Checked::Refused(Refusal::MemoryPool);
+        return Err(Refusal::MemoryPool);
     }
     check_access(r, a)
 }
 
 // A store in a session that has a regime, over a memory of n bytes.
-pub fn check_session_store(n: usize, r: Regime, address: PhysAddr) -> Checked
+#[tactic(auto, unfolding(crate::specs::Order::session_store_check))]
+pub fn check_session_store(n: usize, r: Regime, address: PhysAddr) -> Result<(), Refusal>
     ensures { result ≡ session_store_check n r address.0 }
 {
     if memory_pool_bad(n, r) {
-        return Checked::Refused(Refusal::MemoryPool);
+        return Err(Refusal::MemoryPool);
     }
     if store_address_bad(r.pool, address) {
-        return Checked::Refused(Refusal::StoreAddress);
+        return Err(Refusal::StoreAddress);
     }
-    Checked::Accepted
+    Ok(())
 }

@@ -1,12 +1,11 @@
 -- What a cleaning leaves, entry by entry.
-use Prim.Native.Nat.{ℕ, suc, ◌+◌, ◌-◌, ◌/◌, ◌%◌, ◌^◌, ◌<◌, ◌≤◌}
+use Prim.Native.Nat.{ℕ, suc, ◌+◌, ◌-◌, ◌%◌, ◌^◌, ◌<◌, ◌≤◌}
 use mathlib.Core.Bool.{Bool, true, false, ◌&&◌}
 use mathlib.Core.List.{List}
 use mathlib.Core.Path.{◌≡◌, refl, sym, ap, subst, ◌∙◌}
 use native.Mathlib.Omega.{arith}
 use lib.Dec.{leb, lit<}
 use lib.ListN.{length}
-use borrow.Author.Tests.{le-leb}
 use Rattle.descriptor.specs.Bits.{pick}
 use Rattle.descriptor.specs.Bytes.{Bytes, desc, put}
 use Rattle.descriptor.proofs.Tests.{and_true, clash, differ}
@@ -18,17 +17,17 @@ use Rattle.vmsa.specs.Granules.{Paged}
 use Rattle.vmsa.specs.declared.PhysAddr.{PhysAddr}
 use Rattle.vmsa.specs.declared.FaultKind.{FaultKind}
 use Rattle.vmsa.specs.declared.Leaf.{Leaf}
-use Rattle.lookup.specs.declared.Word.{Word}
-use Rattle.lookup.specs.declared.Word.TheVariants.{Value, Unreachable}
+use Rattle.std.specs.Prelude.{Option, Some, None}
 use Rattle.lookup.specs.declared.Next.{Next}
 use Rattle.lookup.specs.declared.Next.TheVariants as next
 use Rattle.lookup.specs.Trace.{End, fault, leaf}
 use Rattle.lookup.specs.Steps.{fetched, decoded, descend}
 use Rattle.lookup.proofs.Decoding.{table_above}
-use Rattle.lookup.proofs.Reach.{Good, descend_good, InPool, in_pool}
+use Rattle.lookup.proofs.Reach.{Good, descend_good, InPool}
+pub use Rattle.lookup.proofs.Reach.{in_pool}
 use Rattle.gather.specs.Ends.{dirty, leaf_dirty, pages_in, untabled, Walks, walks, context_for, entry_for, table_end, entry_end, OneEntry}
-use Rattle.gather.proofs.Ends.{table_entry, end_abort, end_fault_lem, end_leaf, end_table}
-use Rattle.clean.specs.Clean.{pages, whole_in, Asked, asked, set_again, cleaned_by, Again, Cleaned, Cleans, Cleanable}
+use Rattle.gather.proofs.Ends.{one_page, fetched_at, table_entry, end_abort, end_fault_lem, end_leaf, end_table}
+use Rattle.clean.specs.Clean.{pages, whole_in, Asked, asked, set_again, cleaned_by, cleaned_at, Again, Cleaned, Cleans, Cleanable}
 use Rattle.clean.proofs.Laws.{pages_join, pages_none, pages_still, pages_once, pages_ext, whole_same, whole_page, again_split, again_dirty, again_decoded, cleaned_refl, cleaned_put, cleaned_by_ext, Stands}
 
 -- ---- one part of the pages after another
@@ -68,7 +67,7 @@ pub cleans_to : {k : Asked} {ends : List ℕ → ℕ → End} {lo hi : ℕ} {p q
 cleans_to {k} {ends} {lo} {hi} {p} {q} {r} e c = subst (λ (x : List ℕ). Cleans k ends lo hi p x) (sym e) c
 
 -- the pages of one entry of a table
-pub cleans_entry : (k : Asked) (ws : Walks) (read : List ℕ → ℕ → Word) (left table a lo hi : ℕ) (p q : List ℕ) → a ≡ entry_for ws.page left table lo → OneEntry (pages_in ws.page left) lo hi
+pub cleans_entry : (k : Asked) (ws : Walks) (read : List ℕ → ℕ → Option ℕ) (left table a lo hi : ℕ) (p q : List ℕ) → a ≡ entry_for ws.page left table lo → OneEntry (pages_in ws.page left) lo hi
     → Cleans k (λ first. entry_end ws (read first) left a) lo hi p q → Cleans k (λ first. table_end ws (read first) left table) lo hi p q
 cleans_entry k ws read left table a lo hi p q e one =
     cleans_ext k (λ first. entry_end ws (read first) left a) (λ first. table_end ws (read first) left table) lo hi p q
@@ -87,17 +86,13 @@ leaf_set k ends x s a l e = ap (set_again k x s) e
 
 -- ---- what stands at an address, in the first pool and in this one
 
-unreachable_first : (ee : Bool) (p q : List ℕ) (base a : ℕ) → length q ≡ length p → fetched ee q base a ≡ Unreachable → fetched ee p base a ≡ Unreachable
+unreachable_first : (ee : Bool) (p q : List ℕ) (base a : ℕ) → length q ≡ length p → fetched ee q base a ≡ None → fetched ee p base a ≡ None
 unfolding fetched
 unreachable_first ee p q base a e = rw e (by (leb base a && leb (a + 8) (base + length p)))
   where
-    by : (b : Bool) → pick b (Value (desc ee q (a - base))) Unreachable ≡ Unreachable → pick b (Value (desc ee p (a - base))) Unreachable ≡ Unreachable
+    by : (b : Bool) → pick b (Some (desc ee q (a - base))) None ≡ None → pick b (Some (desc ee p (a - base))) None ≡ None
     by true u = clash (cc)
     by false u = refl
-
-pub fetched_at : (ee : Bool) (p : List ℕ) (base a : ℕ) → base ≤ a → a + 8 ≤ base + length p → fetched ee p base a ≡ Value (desc ee p (a - base))
-unfolding fetched
-fetched_at ee p base a l h = rw (le-leb base a l, le-leb (a + 8) (base + length p) h)
 
 -- ---- one entry
 
@@ -108,12 +103,12 @@ module _ (ee : Bool) (base limit : PhysAddr) (page from count : ℕ) (g : Paged 
   abbrev from_here : List ℕ → ℕ → End
   from_here first = entry_end (walks base limit page) (fetched ee first base.0) left a
 
-  pub cleans_abort : fetched ee q base.0 a ≡ Unreachable → Cleans here from_here lo hi q q
+  pub cleans_abort : fetched ee q base.0 a ≡ None → Cleans here from_here lo hi q q
   cleans_abort u =
       cleans_still here from_here lo hi q
       (λ first c x _ _. fault_still here (from_here first) x q _ _ (end_abort (walks base limit page) (fetched ee first base.0) left a x (unreachable_first ee first q base.0 a c.long u)))
 
-  module _ (base8 : base.0 % 8 ≡ 0) (a8 : a % 8 ≡ 0) (w : ℕ) (found : fetched ee q base.0 a ≡ Value w) where
+  module _ (base8 : base.0 % 8 ≡ 0) (a8 : a % 8 ≡ 0) (w : ℕ) (found : fetched ee q base.0 a ≡ Some w) where
     at : ℕ
     at = a - base.0
 
@@ -122,7 +117,7 @@ module _ (ee : Bool) (base limit : PhysAddr) (page from count : ℕ) (g : Paged 
 
     -- the entry in the first pool
     record First (first : List ℕ) : Type 0 where
-      value : fetched ee first base.0 a ≡ Value (desc ee first at)
+      value : fetched ee first base.0 a ≡ Some (desc ee first at)
       fits : at + 8 ≤ length first
       again : Again (desc ee first at) w
       same : (l : ℕ) → decoded page limit.0 l (desc ee first at) ≡ decoded page limit.0 l w
@@ -222,12 +217,9 @@ module _ (ee : Bool) (base limit : PhysAddr) (page from count : ℕ) (g : Paged 
 
 -- ---- a page of the last level, which is whole where it is asked for
 
-pub one_page : (w x : ℕ) → OneEntry w x (x + 1)
-one_page w x = record { some = omega arith; same = λ y p h. let e : y ≡ x = omega arith in ap (λ (z : ℕ). z / w) e }
-
 module _ (ee : Bool) (base limit : PhysAddr) (page from count : ℕ) (g : Paged page) (a x : ℕ) (q : List ℕ) (able : Cleanable (asked ee base.0 page from count) a x (x + 1)) (w : ℕ)
-    (found : fetched ee q base.0 a ≡ Value w) where
-  pub page_left : leaf_dirty w (decoded page limit.0 0 w) ≡ false → Cleans (asked ee base.0 page from count) (λ first. entry_end (walks base limit page) (fetched ee first base.0) 0 a) x (x + 1) q q
+    (found : fetched ee q base.0 a ≡ Some w) where
+  page_left : leaf_dirty w (decoded page limit.0 0 w) ≡ false → Cleans (asked ee base.0 page from count) (λ first. entry_end (walks base limit page) (fetched ee first base.0) 0 a) x (x + 1) q q
   page_left = by (decoded page limit.0 0 w) refl
     where
       by : (n : Next) → decoded page limit.0 0 w ≡ n → leaf_dirty w n ≡ false → Cleans (asked ee base.0 page from count) (λ first. entry_end (walks base limit page) (fetched ee first base.0) 0 a) x (x + 1) q q
@@ -237,7 +229,7 @@ module _ (ee : Bool) (base limit : PhysAddr) (page from count : ℕ) (g : Paged 
           cleans_left ee base limit page from count g 0 a x (x + 1) q able.base_aligned able.aligned w found d (one_page (pages_in page 0) x)
           (ap (λ (b : Bool). b && whole_in from count (pages_in page 0) x) e)
 
-  pub page_set : leaf_dirty w (decoded page limit.0 0 w) ≡ true
+  page_set : leaf_dirty w (decoded page limit.0 0 w) ≡ true
       → Cleans (asked ee base.0 page from count) (λ first. entry_end (walks base limit page) (fetched ee first base.0) 0 a) x (x + 1) q (put ee q (a - base.0) (set_ap2 w))
   page_set = by (decoded page limit.0 0 w) refl
     where
@@ -248,6 +240,17 @@ module _ (ee : Bool) (base limit : PhysAddr) (page from count : ℕ) (g : Paged 
       by next.Leaf d e =
           cleans_set ee base limit page from count g 0 a x (x + 1) q able.base_aligned able.aligned w found d (one_page (pages_in page 0) x)
           (rw (e, whole_page page from count x able.begin able.end))
+
+  -- whether or not it is a dirty leaf
+  abbrev Page : Bool → ℕ → Type 0
+  Page b v = Cleans (asked ee base.0 page from count) (λ first. entry_end (walks base limit page) (fetched ee first base.0) 0 a) x (x + 1) q (pick b (put ee q (a - base.0) (set_ap2 v)) q)
+
+  pub page_cleaned : Cleans (asked ee base.0 page from count) (λ first. entry_end (walks base limit page) (fetched ee first base.0) 0 a) x (x + 1) q (cleaned_at ee page limit.0 (a - base.0) q)
+  page_cleaned = subst (λ (v : ℕ). Page (leaf_dirty v (decoded page limit.0 0 v)) v) (sym (in_pool ee q base.0 a w found).same) (by (leaf_dirty w (decoded page limit.0 0 w)) refl)
+    where
+      by : (b : Bool) → leaf_dirty w (decoded page limit.0 0 w) ≡ b → Page b w
+      by true d = page_set d
+      by false d = page_left d
 
 -- ---- over the first pool
 

@@ -1,82 +1,56 @@
--- A table of the last level whose entries lie one after another in the pool.
+-- A table of the last level, page by page.
 use Prim.Native.Nat.{ℕ, ◌+◌, ◌*◌, ◌-◌, ◌<◌, ◌≤◌}
-use mathlib.Core.Bool.{Bool, true, false}
 use mathlib.Core.List.{List}
-use mathlib.Core.Path.{◌≡◌, refl, sym, ap, ◌∙◌}
+use mathlib.Core.Path.{◌≡◌, refl, ap, ◌∙◌}
 use native.Mathlib.Omega.{arith}
 use lib.ListN.{length}
-use Rattle.descriptor.specs.Bits.{pick}
-use Rattle.descriptor.specs.Bytes.{desc, put}
-use Rattle.descriptor.proofs.Laws.{length_put}
-use Rattle.vmsa.specs.Fields.{set_ap2}
-use Rattle.vmsa.specs.Granules.{Paged}
-use Rattle.vmsa.specs.declared.PhysAddr.{PhysAddr}
-use Rattle.lookup.specs.declared.Word.TheVariants.{Value}
-use Rattle.lookup.specs.Steps.{fetched, decoded}
-use Rattle.gather.specs.Ends.{leaf_dirty, pages_in, walks, entry_for, table_end, entry_end, OneRun}
-use Rattle.gather.proofs.Ends.{entry_aligned, run_entry}
-use Rattle.clean.specs.Clean.{asked, cleaned_at, Cleans, Cleanable}
-use Rattle.clean.proofs.Entries.{cleans_entry, cleans_to, fetched_at, one_page, page_left, page_set}
+use Rattle.std.specs.Prelude.{Some, None}
+use Rattle.descriptor.specs.Bytes.{desc}
+use Rattle.lookup.specs.Steps.{fetched}
+use Rattle.gather.specs.declared.Search.{Search}
+use Rattle.gather.specs.Ends.{pages_in, entry_for, OneRun}
+use Rattle.gather.specs.Search.{walks_of, table_ends, entry_ends}
+use Rattle.gather.proofs.Ends.{one_page, fetched_at, entry_aligned, run_entry}
+use Rattle.clean.specs.declared.Cleaning.{Cleaning}
+use Rattle.clean.specs.Clean.{cleaned_at, Cleans, Cleanable}
+use Rattle.clean.specs.Cleaning.{asked_by}
+use Rattle.clean.proofs.Entries.{cleans_abort, cleans_entry, cleans_to, page_cleaned}
 
--- ---- a page by the offset of its descriptor
+-- page x of a table, over a pool
+module _ (c : Cleaning) (table lo hi : ℕ) (able : Cleanable (asked_by c) table lo hi) (x : ℕ) (p : lo ≤ x) (h : x < hi) (q : List ℕ) where
+  abbrev s : Search
+  s = c.search
 
--- as many bytes
-pub at_long : (ee : Bool) (page limit at : ℕ) (q : List ℕ) → at + 8 ≤ length q → length (cleaned_at ee page limit at q) ≡ length q
-at_long ee page limit at q h = by (leaf_dirty (desc ee q at) (decoded page limit 0 (desc ee q at)))
-  where
-    by : (b : Bool) → length (pick b (put ee q at (set_ap2 (desc ee q at))) q) ≡ length q
-    by true = length_put ee q at (set_ap2 (desc ee q at)) h
-    by false = refl
-
--- by whether the value there is a dirty leaf
-pub at_by : (ee : Bool) (page limit at : ℕ) (q : List ℕ) (v : ℕ) (b : Bool) → v ≡ desc ee q at → leaf_dirty v (decoded page limit 0 v) ≡ b
-    → pick b (put ee q at (set_ap2 v)) q ≡ cleaned_at ee page limit at q
-at_by ee page limit at q v b e d =
-    ap (λ (t : Bool). pick t (put ee q at (set_ap2 v)) q) (sym d) ∙ ap (λ (w : ℕ). pick (leaf_dirty w (decoded page limit 0 w)) (put ee q at (set_ap2 w)) q) e
-
--- what the cleaning of a run relies on: a table at an address, its first entry at offset start of a pool of so many bytes
-pub record RunAt (ee : Bool) (base page from count table lo hi bytes start : ℕ) : Type 0 where
-  pub paged : Paged page
-  pub able : Cleanable (asked ee base page from count) table lo hi
-  pub run : OneRun page table base bytes lo hi
-  pub begins : start ≡ entry_for page 0 table lo - base
-
--- the cleaning at page x's offset is that of page x
-module _ (ee : Bool) (base limit : PhysAddr) (page from count table lo hi bytes start : ℕ) (k : RunAt ee base.0 page from count table lo hi bytes start)
-    (x : ℕ) (p : lo ≤ x) (h : x < hi) (q : List ℕ) (long : length q ≡ bytes) where
   abbrev a : ℕ
-  a = entry_for page 0 table x
-
-  goes : a ≡ entry_for page 0 table lo + 8 * (x - lo)
-  goes = run_entry page table base.0 bytes lo hi k.run x p h
+  a = entry_for c.search.page 0 table x
 
   abbrev Page : List ℕ → Type 0
-  Page r = Cleans (asked ee base.0 page from count) (λ first. entry_end (walks base limit page) (fetched ee first base.0) 0 a) x (x + 1) q r
+  Page r = Cleans (asked_by c) (table_ends s 0 table) x (x + 1) q r
 
-  there : Page (cleaned_at ee page limit.0 (a - base.0) q)
-  there = by (leaf_dirty v (decoded page limit.0 0 v)) refl
+  from_entry : (r : List ℕ) → Cleans (asked_by c) (entry_ends s 0 a) x (x + 1) q r → Page r
+  from_entry r = cleans_entry (asked_by c) (walks_of s) (λ first. fetched s.ee first s.base.0) 0 table a x (x + 1) q r refl (one_page (pages_in s.page 0) x)
+
+  -- its entry is not in the pool
+  pub page_abort : fetched s.ee q s.base.0 a ≡ None → Page q
+  page_abort u = from_entry q (cleans_abort s.ee s.base s.limit s.page s.from (c.to - s.from) s.paged 0 a x (x + 1) q u)
+
+  -- its entry is in the pool, at an offset
+  pub page_at : (w at : ℕ) → fetched s.ee q s.base.0 a ≡ Some w → at ≡ a - s.base.0 → (r : List ℕ) → r ≡ cleaned_at s.ee s.page s.limit.0 at q → Page r
+  page_at w at found e r f =
+      cleans_to (f ∙ ap (λ (i : ℕ). cleaned_at s.ee s.page s.limit.0 i q) e)
+      (from_entry _ (page_cleaned s.ee s.base s.limit s.page s.from (c.to - s.from) s.paged a x q able_here w found))
     where
-      v : ℕ
-      v = desc ee q (a - base.0)
-
-      able : Cleanable (asked ee base.0 page from count) a x (x + 1)
-      able = record {
-        begin = omega (arith, k.able.begin);
-        end = omega (arith, k.able.end);
-        base_aligned = k.able.base_aligned;
-        aligned = entry_aligned page 0 table x k.able.aligned;
+      able_here : Cleanable (asked_by c) a x (x + 1)
+      able_here = record {
+        begin = omega (arith, able.begin);
+        end = omega (arith, able.end);
+        base_aligned = able.base_aligned;
+        aligned = entry_aligned s.page 0 table x able.aligned;
       }
 
-      found : fetched ee q base.0 a ≡ Value v
-      found = fetched_at ee q base.0 a (omega (arith, goes, k.run.least)) (omega (arith, goes, long, k.run.most))
-
-      by : (b : Bool) → leaf_dirty v (decoded page limit.0 0 v) ≡ b → Page (pick b (put ee q (a - base.0) (set_ap2 v)) q)
-      by true d = page_set ee base limit page from count k.paged a x q able v found d
-      by false d = page_left ee base limit page from count k.paged a x q able v found d
-
-  pub run_page : (at : ℕ) → at ≡ start + 8 * (x - lo) → (r : List ℕ) → r ≡ cleaned_at ee page limit.0 at q
-      → Cleans (asked ee base.0 page from count) (λ first. table_end (walks base limit page) (fetched ee first base.0) 0 table) x (x + 1) q r
-  run_page at e r f =
-      let s : at ≡ a - base.0 = omega (arith, e, goes, k.begins, k.run.least) in
-      cleans_entry (asked ee base.0 page from count) (walks base limit page) (λ first. fetched ee first base.0) 0 table a x (x + 1) q r refl (one_page (pages_in page 0) x)
-      (cleans_to (f ∙ ap (λ (i : ℕ). cleaned_at ee page limit.0 i q) s) there)
+  -- its entry is one of a run
+  pub run_page : OneRun s.page table s.base.0 (length q) lo hi → (at : ℕ) → at ≡ entry_for s.page 0 table lo - s.base.0 + 8 * (x - lo) → (r : List ℕ)
+      → r ≡ cleaned_at s.ee s.page s.limit.0 at q → Page r
+  run_page run at e =
+      let goes = run_entry s.page table s.base.0 (length q) lo hi run x p h in
+      page_at (desc s.ee q (a - s.base.0)) at (fetched_at s.ee q s.base.0 a (omega (arith, goes, run.least)) (omega (arith, goes, run.most))) (omega (arith, e, goes, run.least))

@@ -5,15 +5,15 @@ use mathlib.Core.List.{List, [], ◌∷◌, ◌++◌, append_assoc, reverse, rev
 use native.Mathlib.Nat.{add-suc, add-zero, add_assoc}
 use mathlib.Core.Logic.{◌⊎◌, inl, inr}
 use native.Mathlib.Omega.{arith}
-use lib.ListN.{length, get_or, take, drop, set, length-append, length-drop, length-reverse, take-append-drop, get_or-append}
-use lib.Seq.{drop-cons, sets, sets-eq, take_at, drop_at, length-take-le, get_or-take, get_or-drop, get_or-append-add, take-append-add, drop-append-add, take-append-le, drop-append-le}
+use lib.ListN.{length, get_or, take, drop, length-append, length-drop, length-reverse, take-append-drop, get_or-append}
+use lib.Seq.{drop-cons, take_at, drop_at, length-take-le, get_or-take, get_or-drop, get_or-append-add, take-append-add, drop-append-add, take-append-le, drop-append-le}
 use mathlib.Core.Bool.{Bool, true, false, not}
 use lib.Dec.{eqb, ltb}
 use borrow.Author.Tests.{eqb-true, eqb-false, ltb-true, ltb-false}
 use Rattle.descriptor.specs.Bits.{pick}
 use Rattle.descriptor.specs.Bytes.{number, digits, in_order, value_of, bytes_of, desc, put}
 
--- ---- what the code reads
+-- ---- the elements of a part, one by one
 
 -- n elements of l from at + k on
 unfoldable pub cells : ℕ → List ℕ → ℕ → ℕ → List ℕ
@@ -29,18 +29,6 @@ window (suc n) l at k h =
 
 pub window0 : (n : ℕ) (l : List ℕ) (at : ℕ) → at + n ≤ length l → take n (drop at l) ≡ cells n l at 0
 window0 n l at h = rw (add-zero at) at (window n l at 0 (omega arith))
-
--- ---- what the code writes
-
--- vs stored one by one from at + k on, as the code does it
-unfoldable pub run : List ℕ → ℕ → ℕ → List ℕ → List ℕ
-run l at k [] = l
-run l at k (v ∷ vs) = run (set l (at + k) v) at (suc k) vs
-
-run_sets : (l : List ℕ) (at k : ℕ) (vs : List ℕ) → run l at k vs ≡ sets l (at + k) vs
-unfolding run
-run_sets l at k [] = refl
-run_sets l at k (v ∷ vs) = rw (← add-suc at k) (run_sets (set l (at + k) v) at (suc k) vs)
 
 length_digits : (n v : ℕ) → length (digits n v) ≡ n
 unfolding digits
@@ -62,10 +50,6 @@ length_in_order false l = refl
 pub length_bytes : (ee : Bool) (v : ℕ) → length (bytes_of ee v) ≡ 8
 unfolding bytes_of
 length_bytes ee v = length_in_order ee (digits 8 v) ∙ length_digits 8 v
-
-pub written : (ee : Bool) (l : List ℕ) (at v : ℕ) → at + 8 ≤ length l → run l at 0 (bytes_of ee v) ≡ put ee l at v
-unfolding put
-written ee l at v h = run_sets l at 0 (bytes_of ee v) ∙ rw (add-zero at, sets-eq (bytes_of ee v) l at (rw (length_bytes ee v) h), length_bytes ee v)
 
 -- ---- the laws
 

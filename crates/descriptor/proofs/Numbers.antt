@@ -3,13 +3,11 @@ use Prim.Native.Nat.{ℕ, zero, suc, ◌+◌, ◌*◌, ◌/◌, ◌%◌, ◌^◌
 use mathlib.Core.Bool.{Bool, true, false}
 use mathlib.Core.Path.{◌≡◌, refl, sym, ap, ◌∙◌}
 use mathlib.Core.List.{List, [], ◌∷◌, ◌++◌, reverse, reverse-cons, reverse-reverse, append_assoc}
-use native.Mathlib.Nat.{pow-succ', mod-lt, div-one}
-use lib.Pow.{shr-shr}
+use native.Mathlib.Nat.{pow-succ', mod-lt}
 use native.Mathlib.Omega.{arith}
 use lib.Dec.{lit<}
 use lib.ListN.{length, take, drop, length-take, length-drop, take-append-drop}
 use lib.Seq.{get_or-drop, drop-drop, length-take-le}
-use Rattle.descriptor.specs.Bits.{field}
 use Rattle.descriptor.specs.Bytes.{Bytes, number, digits, in_order, value_of, bytes_of, desc, put}
 use Rattle.descriptor.proofs.Laws.{length_in_order, length_bytes}
 
@@ -33,7 +31,7 @@ bytes_one : (b : ℕ) → b < 256 → Bytes (b ∷ [])
 bytes_one b h zero = h
 bytes_one b h (suc i) = lit< tt
 
-bytes_digits : (n v : ℕ) → Bytes (digits n v)
+pub bytes_digits : (n v : ℕ) → Bytes (digits n v)
 unfolding digits
 bytes_digits zero v i = lit< tt
 bytes_digits (suc n) v zero = mod-lt v (lit< tt)
@@ -75,21 +73,6 @@ desc_small ee m i h =
     let eight = take 8 (drop i m) in
     number_small 8 (in_order ee eight) (rw (length_in_order ee eight, length-take 8 (drop i m)) (omega arith)) (bytes_in_order ee eight (bytes_take (drop i m) 8 (bytes_drop m i h)))
 
--- ---- the bytes of a number as fields
-
--- n fields of a byte, from bit s on
-unfoldable pub fields : ℕ → ℕ → ℕ → List ℕ
-fields zero s v = []
-fields (suc n) s v = field s 8 v ∷ fields n (s + 8) v
-
-fields_from : (n s v : ℕ) → digits n (v / 2 ^ s) ≡ fields n s v
-unfolding digits fields
-fields_from zero s v = refl
-fields_from (suc n) s v = ap (λ (r : List ℕ). field s 8 v ∷ r) (ap (digits n) (shr-shr v s 8) ∙ fields_from n (s + 8) v)
-
-pub digits_fields : (n v : ℕ) → digits n v ≡ fields n 0 v
-digits_fields n v = ap (digits n) (sym (div-one v)) ∙ fields_from n 0 v
-
 -- ---- bytes come back from their number
 
 -- the lowest first
@@ -102,11 +85,7 @@ digits_number (b ∷ l) h =
     let high : (b + 256 * number l) / 256 ≡ number l = omega arith in
     rw (low, high) (ap (λ (r : List ℕ). b ∷ r) (digits_number l (λ i. h (suc i))))
 
--- 8 bytes read the lowest first, and that number's bytes taken in an order: the value of the 8 bytes in that order
-pub value_again : (ee : Bool) (l : List ℕ) → length l ≡ 8 → Bytes l → value_of ee (digits 8 (number l)) ≡ value_of ee l
-value_again ee l e h = ap (value_of ee) (rw e at (digits_number l h))
-
--- and the other way: the bytes, the lowest first, of the number that stands for a value in an order are the value's bytes in that order
+-- the bytes, the lowest first, of the number that stands for a value in an order are the value's bytes in that order
 pub bytes_again : (ee : Bool) (v : ℕ) → digits 8 (value_of ee (digits 8 v)) ≡ bytes_of ee v
 unfolding value_of bytes_of
 bytes_again ee v =

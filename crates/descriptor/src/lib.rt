@@ -1,63 +1,17 @@
 // A descriptor of 8 bytes in lent memory, and the bits of a descriptor.
 #![tactic(auto)]
 
-ghost use Rattle.std.specs.Prelude.{◌≡◌, ◌+◌, ◌≤◌, ◌<◌, ◌^◌, [], ◌∷◌, reverse, length};
-ghost use Rattle.descriptor.specs.Bytes.{number, digits, value_of, desc, put};
+ghost use Rattle.std.specs.Prelude.{◌≡◌, ◌+◌, ◌≤◌, ◌<◌, ◌^◌, length};
+ghost use Rattle.descriptor.specs.Bytes.{desc, put};
 ghost use Rattle.descriptor.specs.Bits.{pick, bit as bit_of, field as field_of, set_bit, clear_bit};
 
-// The number in eight bytes, the lowest first. Shifted apart they share no bit: `+` is `|` here.
-fn from_le_bytes(b0: u8, b1: u8, b2: u8, b3: u8, b4: u8, b5: u8, b6: u8, b7: u8) -> u64
-    ensures { result ≡ number (b0 ∷ b1 ∷ b2 ∷ b3 ∷ b4 ∷ b5 ∷ b6 ∷ b7 ∷ []) }
-{
-    (b0 as u64)
-        + ((b1 as u64) << 8)
-        + ((b2 as u64) << 16)
-        + ((b3 as u64) << 24)
-        + ((b4 as u64) << 32)
-        + ((b5 as u64) << 40)
-        + ((b6 as u64) << 48)
-        + ((b7 as u64) << 56)
-}
-
-// v byte-swapped.
-fn swap_bytes(v: u64) -> u64
-    ensures { result ≡ number (reverse (digits 8 v)) }
-{
-    from_le_bytes(
-        field(v, 56, 8) as u8,
-        field(v, 48, 8) as u8,
-        field(v, 40, 8) as u8,
-        field(v, 32, 8) as u8,
-        field(v, 24, 8) as u8,
-        field(v, 16, 8) as u8,
-        field(v, 8, 8) as u8,
-        field(v, 0, 8) as u8,
-    )
-}
-
-// The number whose bytes, the lowest first, are those of v in the order of ee. It undoes itself, so load and store share it.
-fn in_order(v: u64, ee: bool) -> u64
-    ensures { result ≡ value_of ee (digits 8 v) }
-{
-    select(ee, swap_bytes(v), v)
-}
-
-// The descriptor at an offset, big-endian where ee holds.
+// The descriptor at an offset, big-endian where ee holds. Both orders and a select become one load and a byte swap.
 pub fn load(memory: &[u8], at: usize, ee: bool) -> u64
     requires { at + 8 ≤ length memory.now }
     ensures { result ≡ desc ee memory.now at }
 {
-    let v = from_le_bytes(
-        memory[at],
-        memory[at + 1],
-        memory[at + 2],
-        memory[at + 3],
-        memory[at + 4],
-        memory[at + 5],
-        memory[at + 6],
-        memory[at + 7],
-    );
-    in_order(v, ee)
+    let bytes: [u8; 8] = memory[at..at + 8].try_into().unwrap();
+    select(ee, u64::from_be_bytes(bytes), u64::from_le_bytes(bytes))
 }
 
 // Writes a descriptor at an offset, big-endian where ee holds, and no other byte.
@@ -65,32 +19,12 @@ pub fn store(memory: &mut [u8], at: usize, value: u64, ee: bool)
     requires { at + 8 ≤ length memory.old }
     ensures { memory.new ≡ put ee memory.old at value }
 {
-    let v = in_order(value, ee);
-    let v1 = v / 256;
-    let v2 = v1 / 256;
-    let v3 = v2 / 256;
-    let v4 = v3 / 256;
-    let v5 = v4 / 256;
-    let v6 = v5 / 256;
-    let v7 = v6 / 256;
-    memory[at] = (v % 256) as u8;
-    memory[at + 1] = (v1 % 256) as u8;
-    memory[at + 2] = (v2 % 256) as u8;
-    memory[at + 3] = (v3 % 256) as u8;
-    memory[at + 4] = (v4 % 256) as u8;
-    memory[at + 5] = (v5 % 256) as u8;
-    memory[at + 6] = (v6 % 256) as u8;
-    memory[at + 7] = (v7 % 256) as u8;
+    let bytes = select(ee, value.to_be_bytes(), value.to_le_bytes());
+    memory[at..at + 8].copy_from_slice(&bytes);
 }
 
 // x where b holds, or else y.
-pub fn select(b: bool, x: u64, y: u64) -> u64
-    ensures { result ≡ pick b x y }
-{
-    if b { x } else { y }
-}
-
-pub fn select_bool(b: bool, x: bool, y: bool) -> bool
+pub fn select<T: Copy>(b: bool, x: T, y: T) -> T
     ensures { result ≡ pick b x y }
 {
     if b { x } else { y }
@@ -104,7 +38,7 @@ pub fn power(k: u8) -> u64
     1u64 << k
 }
 
-// Whether bit n of v is 1.
+// Whether bit n of v is 1. n is a number and no type of its own, since each use has a constant.
 pub fn bit(v: u64, n: u8) -> bool
     requires { n < 64 }
     ensures { result ≡ bit_of n v }
@@ -121,6 +55,7 @@ pub fn field(v: u64, n: u8, w: u8) -> u64
 }
 
 // v with bit n set.
+#[tactic(auto, unfolding(crate::specs::Bits::set_bit))]
 pub fn set_bit(v: u64, n: u8) -> u64
     requires { n < 64 }
     ensures { result ≡ set_bit n v }
@@ -132,6 +67,7 @@ pub fn set_bit(v: u64, n: u8) -> u64
 }
 
 // v with bit n cleared.
+#[tactic(auto, unfolding(crate::specs::Bits::clear_bit))]
 pub fn clear_bit(v: u64, n: u8) -> u64
     requires { n < 64 }
     ensures { result ≡ clear_bit n v }

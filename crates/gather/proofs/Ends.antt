@@ -3,19 +3,23 @@ use Prim.Native.Nat.{ℕ, zero, suc, ◌+◌, ◌*◌, ◌-◌, ◌/◌, ◌%◌
 use mathlib.Core.Path.{◌≡◌, refl, sym, ap, ◌∙◌}
 use native.Mathlib.Nat.{div-mul-le_self, lt-div-mul-add, div-eq_of_lt-le, add-mul, div-add-mod', div-one, mul-zero, mod-add-mod, mod-eq_of_lt}
 use native.Mathlib.Omega.{arith}
+use lib.ListN.{length}
 use lib.Pow.{pow_pos, shl-shr, shr-shr}
+use borrow.Author.Tests.{le-leb}
+use mathlib.Core.Bool.{Bool}
+use mathlib.Core.List.{List}
+use Rattle.descriptor.specs.Bytes.{desc}
 use Rattle.vmsa.specs.Fields.{no_tables, with_table}
 use Rattle.geometry.specs.Geometry.{level_of, page_size, shift_of, span, stride_bits}
 use Rattle.vmsa.specs.declared.PhysAddr.{PhysAddr}
 use Rattle.vmsa.specs.declared.FaultKind.{FaultKind}
 use Rattle.vmsa.specs.declared.FaultKind.TheVariants.{ExternalAbort}
-use Rattle.lookup.specs.declared.Word.{Word}
-use Rattle.lookup.specs.declared.Word.TheVariants.{Value, Unreachable}
+use Rattle.std.specs.Prelude.{Option, Some, None}
 use Rattle.lookup.specs.declared.Next.{Next}
 use Rattle.lookup.specs.declared.Next.TheVariants as next
 use Rattle.lookup.specs.declared.Context.{Context}
 use Rattle.lookup.specs.Trace.{End, fault, leaf, Trace, ended}
-use Rattle.lookup.specs.Steps.{entry_at, decoded, onward, on_word, followed, entered, descend}
+use Rattle.lookup.specs.Steps.{fetched, entry_at, decoded, onward, on_word, followed, entered, descend}
 use Rattle.lookup.proofs.Levels.{down_up}
 use Rattle.gather.specs.Ends.{dirty_end, leaf_dirty, pages_in, untabled, Walks, context_for, entry_for, table_end, entry_end, OneEntry, OneRun}
 
@@ -27,13 +31,13 @@ onward_untabled below h s r left a v (next.Fault kind) = refl
 onward_untabled below h s r left a v (next.Table table) = h (with_table s v) (with_table r v) table.0
 onward_untabled below h s r left a v next.Leaf = refl
 
-module _ (c : Context) (read : ℕ → Word) where
-  word_untabled : (n s r a : ℕ) → ((x y t : ℕ) → untabled (descend c read n x t).end ≡ untabled (descend c read n y t).end) → (w : Word)
+module _ (c : Context) (read : ℕ → Option ℕ) where
+  word_untabled : (n s r a : ℕ) → ((x y t : ℕ) → untabled (descend c read n x t).end ≡ untabled (descend c read n y t).end) → (w : Option ℕ)
       → untabled (on_word (ended (fault ExternalAbort (level_of n))) (followed c (descend c read n) s n a) w).end
       ≡ untabled (on_word (ended (fault ExternalAbort (level_of n))) (followed c (descend c read n) r n a) w).end
   unfolding followed
-  word_untabled n s r a h (Value v) = onward_untabled (descend c read n) h s r n a v (decoded c.page c.limit.0 n v)
-  word_untabled n s r a h Unreachable = refl
+  word_untabled n s r a h (Some v) = onward_untabled (descend c read n) h s r n a v (decoded c.page c.limit.0 n v)
+  word_untabled n s r a h None = refl
 
   pub descend_untabled : (n s r t : ℕ) → untabled (descend c read n s t).end ≡ untabled (descend c read n r t).end
   unfolding descend entered
@@ -64,53 +68,53 @@ unfolding entry_for
 entry_aligned p left table x e = omega arith
 
 -- from a table on, by way of the page's entry
-pub table_end_lem : (k : Walks) (read : ℕ → Word) (left table x : ℕ) → table_end k read left table x ≡ entry_end k read left (entry_for k.page left table x) x
+pub table_end_lem : (k : Walks) (read : ℕ → Option ℕ) (left table x : ℕ) → table_end k read left table x ≡ entry_end k read left (entry_for k.page left table x) x
 unfolding table_end entry_end descend entered
 table_end_lem k read left table x = ap (λ (a : ℕ). entry_end k read left a x) (entry_at_lem k left table x)
 
 -- by way of the one entry of all pages from lo on, below hi
-pub table_entry : (k : Walks) (read : ℕ → Word) (left table lo hi : ℕ) → OneEntry (pages_in k.page left) lo hi → (x : ℕ) → lo ≤ x → x < hi
+pub table_entry : (k : Walks) (read : ℕ → Option ℕ) (left table lo hi : ℕ) → OneEntry (pages_in k.page left) lo hi → (x : ℕ) → lo ≤ x → x < hi
     → table_end k read left table x ≡ entry_end k read left (entry_for k.page left table lo) x
 table_entry k read left table lo hi one x p q =
     table_end_lem k read left table x ∙ ap (λ (a : ℕ). entry_end k read left a x) (entry_same k.page left table x lo (one.same x p q))
 
 -- what a walk finds from a table on, whatever the sum of the tables above it
-pub table_any : (k : Walks) (read : ℕ → Word) (left table x s : ℕ) → untabled (descend (context_for k x) read (suc left) s table).end ≡ table_end k read left table x
+pub table_any : (k : Walks) (read : ℕ → Option ℕ) (left table x s : ℕ) → untabled (descend (context_for k x) read (suc left) s table).end ≡ table_end k read left table x
 unfolding table_end
 table_any k read left table x s = descend_untabled (context_for k x) read (suc left) s no_tables table
 
 -- ---- from an entry on, by what stands there
 
-module _ (k : Walks) (read : ℕ → Word) (left a x : ℕ) where
-  pub end_abort : read a ≡ Unreachable → entry_end k read left a x ≡ fault ExternalAbort (level_of left)
+module _ (k : Walks) (read : ℕ → Option ℕ) (left a x : ℕ) where
+  pub end_abort : read a ≡ None → entry_end k read left a x ≡ fault ExternalAbort (level_of left)
   unfolding entry_end
   end_abort e = rw (e, entry_end)
 
-  end_value : (v : ℕ) → read a ≡ Value v → entry_end k read left a x ≡ untabled (followed (context_for k x) (descend (context_for k x) read left) no_tables left a v).end
+  end_value : (v : ℕ) → read a ≡ Some v → entry_end k read left a x ≡ untabled (followed (context_for k x) (descend (context_for k x) read left) no_tables left a v).end
   unfolding entry_end
   end_value v e = rw (e, entry_end)
 
-  pub end_fault_lem : (v : ℕ) (kind : FaultKind) → read a ≡ Value v → decoded k.page k.limit.0 left v ≡ next.Fault kind → entry_end k read left a x ≡ fault kind (level_of left)
+  pub end_fault_lem : (v : ℕ) (kind : FaultKind) → read a ≡ Some v → decoded k.page k.limit.0 left v ≡ next.Fault kind → entry_end k read left a x ≡ fault kind (level_of left)
   unfolding followed
   end_fault_lem v kind e d = rw (end_value v e, d)
 
-  pub end_leaf : (v : ℕ) → read a ≡ Value v → decoded k.page k.limit.0 left v ≡ next.Leaf → entry_end k read left a x ≡ leaf a (record { value = v; left = left; tables = no_tables })
+  pub end_leaf : (v : ℕ) → read a ≡ Some v → decoded k.page k.limit.0 left v ≡ next.Leaf → entry_end k read left a x ≡ leaf a (record { value = v; left = left; tables = no_tables })
   unfolding followed
   end_leaf v e d = rw (end_value v e, d)
 
-  end_below : (v : ℕ) (table : PhysAddr) → read a ≡ Value v → decoded k.page k.limit.0 left v ≡ next.Table table
+  end_below : (v : ℕ) (table : PhysAddr) → read a ≡ Some v → decoded k.page k.limit.0 left v ≡ next.Table table
       → entry_end k read left a x ≡ untabled (descend (context_for k x) read left (with_table no_tables v) table.0).end
   unfolding followed
   end_below v table e d = rw (end_value v e, d)
 
-  pub end_table : (v : ℕ) (table : PhysAddr) → read a ≡ Value v → decoded k.page k.limit.0 left v ≡ next.Table table → 0 < left → entry_end k read left a x ≡ table_end k read (left - 1) table.0 x
+  pub end_table : (v : ℕ) (table : PhysAddr) → read a ≡ Some v → decoded k.page k.limit.0 left v ≡ next.Table table → 0 < left → entry_end k read left a x ≡ table_end k read (left - 1) table.0 x
   end_table v table e d h =
       end_below v table e d
       ∙ ap (λ (n : ℕ). untabled (descend (context_for k x) read n (with_table no_tables v) table.0).end) (sym (down_up left h))
       ∙ table_any k read (left - 1) table.0 x (with_table no_tables v)
 
   -- an entry of the last level has no table below it: it is dirty where it is the page's leaf and says so
-  pub end_dirty : (v : ℕ) → read a ≡ Value v → left ≡ 0 → dirty_end (entry_end k read left a x) ≡ leaf_dirty v (decoded k.page k.limit.0 left v)
+  pub end_dirty : (v : ℕ) → read a ≡ Some v → left ≡ 0 → dirty_end (entry_end k read left a x) ≡ leaf_dirty v (decoded k.page k.limit.0 left v)
   unfolding followed descend
   end_dirty v e z = rw (end_value v e, z) (by (decoded k.page k.limit.0 0 v))
     where
@@ -119,7 +123,16 @@ module _ (k : Walks) (read : ℕ → Word) (left a x : ℕ) where
       by (next.Table table) = refl
       by next.Leaf = refl
 
+-- a descriptor wholly in the pool is read
+pub fetched_at : (ee : Bool) (pool : List ℕ) (base a : ℕ) → base ≤ a → a + 8 ≤ base + length pool → fetched ee pool base a ≡ Some (desc ee pool (a - base))
+unfolding fetched
+fetched_at ee pool base a l h = rw (le-leb base a l, le-leb (a + 8) (base + length pool) h)
+
 -- ---- the end of an entry's pages
+
+-- a page by itself is of one entry
+pub one_page : (w x : ℕ) → OneEntry w x (x + 1)
+one_page w x = record { some = omega arith; same = λ y p q. ap (λ (z : ℕ). z / w) (omega arith) }
 
 pub stop_end : (w at : ℕ) → at - at % w + w ≡ (at / w + 1) * w
 stop_end w at = let e : (at / w + 1) * w ≡ at / w * w + w = add-mul (at / w) 1 w ∙ omega arith in omega (arith, div-add-mod' at w)

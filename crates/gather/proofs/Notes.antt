@@ -1,6 +1,7 @@
 -- What a search notes: range after range, of one entry by what stands there, and over a cleared map.
-use Prim.Native.Nat.{ℕ, ◌+◌, ◌*◌, ◌-◌, ◌/◌, ◌<◌, ◌≤◌}
+use Prim.Native.Nat.{ℕ, ◌+◌, ◌*◌, ◌-◌, ◌<◌, ◌≤◌}
 use mathlib.Core.Bool.{Bool, true, false, ◌&&◌, ◌||◌}
+use Rattle.std.proofs.Math.Bool.{and-false, and-true, and-or_distrib_right}
 use mathlib.Core.List.{List}
 use mathlib.Core.Path.{◌≡◌, refl, sym, ap, ◌∙◌}
 use native.Mathlib.Omega.{arith}
@@ -11,15 +12,14 @@ use Rattle.descriptor.specs.Bytes.{Bytes, desc}
 use Rattle.descriptor.proofs.Tests.{ltb_same}
 use Rattle.vmsa.specs.declared.PhysAddr.{PhysAddr}
 use Rattle.vmsa.specs.declared.FaultKind.{FaultKind}
-use Rattle.lookup.specs.declared.Word.{Word}
-use Rattle.lookup.specs.declared.Word.TheVariants.{Value, Unreachable}
+use Rattle.std.specs.Prelude.{Option, Some, None}
 use Rattle.lookup.specs.declared.Next.TheVariants as next
 use Rattle.lookup.specs.Trace.{End}
 use Rattle.lookup.specs.Steps.{decoded, fetched}
 use Rattle.bitmap.specs.Map.{bytes_for, mapped, cleared, Raises, between}
-use Rattle.bitmap.proofs.Laws.{split, between_in, between_before, between_after, between_none, between_join, raises_none, raises_same, raises_then, run_one, cleared_raised}
+use Rattle.bitmap.proofs.Laws.{split, between_in, between_before, between_after, between_none, between_join, between_one, raises_none, raises_same, raises_then, cleared_raised}
 use Rattle.gather.specs.Ends.{dirty, dirty_end, leaf_dirty, pages_in, Walks, walks, entry_for, table_end, entry_end, noted, OneEntry, OneRun}
-use Rattle.gather.proofs.Ends.{table_end_lem, table_entry, run_entry, end_abort, end_fault_lem, end_leaf, end_table, end_dirty}
+use Rattle.gather.proofs.Ends.{one_page, fetched_at, table_entry, run_entry, end_abort, end_fault_lem, end_leaf, end_table, end_dirty}
 
 -- ---- tests of a page
 
@@ -27,22 +27,6 @@ use Rattle.gather.proofs.Ends.{table_end_lem, table_entry, run_entry, end_abort,
 range_ext : (lo hi x : ℕ) (d e : Bool) → (lo ≤ x → x < hi → d ≡ e) → (between lo hi x && d) ≡ (between lo hi x && e)
 range_ext lo hi x d e h =
     split x lo (λ b. rw (between_before lo hi x b)) (λ b. split x hi (λ c. ap (λ (t : Bool). between lo hi x && t) (h b c)) (λ c. rw (between_after lo hi x c)))
-
-and_none : (t : Bool) → (t && false) ≡ false
-and_none true = refl
-and_none false = refl
-
-and_all : (t : Bool) → (t && true) ≡ t
-and_all true = refl
-and_all false = refl
-
-and_or : (s t d : Bool) → (s && d || t && d) ≡ ((s || t) && d)
-and_or true true true = refl
-and_or true true false = refl
-and_or true false true = refl
-and_or true false false = refl
-and_or false true d = refl
-and_or false false d = refl
 
 -- the range of bits of a range of pages
 range_bits : (from lo hi i : ℕ) → between lo hi (from + i) ≡ between (lo - from) (hi - from) i
@@ -61,7 +45,7 @@ module _ (ends : ℕ → End) (from : ℕ) where
   pub noted_join : (lo mid hi : ℕ) {a b c : List ℕ} → lo ≤ mid → mid ≤ hi → Raises (noted ends from lo mid) a b → Raises (noted ends from mid hi) b c → Raises (noted ends from lo hi) a c
   noted_join lo mid hi {a} {b} {c} p q r s =
       raises_same (λ i. noted ends from lo mid i || noted ends from mid hi i) (noted ends from lo hi) a c
-      (λ i. and_or (between lo mid (from + i)) (between mid hi (from + i)) (dirty_end (ends (from + i))) ∙ ap (λ (t : Bool). t && dirty_end (ends (from + i))) (between_join lo mid hi (from + i) p q))
+      (λ i. sym (and-or_distrib_right (between lo mid (from + i)) (between mid hi (from + i)) (dirty_end (ends (from + i)))) ∙ ap (λ (t : Bool). t && dirty_end (ends (from + i))) (between_join lo mid hi (from + i) p q))
       (raises_then (noted ends from lo mid) (noted ends from mid hi) a b c r s)
 
   -- pages of which the same are dirty
@@ -77,19 +61,16 @@ module _ (ends : ℕ → End) (from : ℕ) where
   -- no page is dirty, and every page is
   pub noted_clean : (lo hi : ℕ) (m : List ℕ) → ((x : ℕ) → lo ≤ x → x < hi → dirty_end (ends x) ≡ false) → Raises (noted ends from lo hi) m m
   noted_clean lo hi m h =
-      raises_none (noted ends from lo hi) m (λ i. range_ext lo hi (from + i) (dirty_end (ends (from + i))) false (h (from + i)) ∙ and_none (between lo hi (from + i)))
+      raises_none (noted ends from lo hi) m (λ i. range_ext lo hi (from + i) (dirty_end (ends (from + i))) false (h (from + i)) ∙ and-false (between lo hi (from + i)))
 
   pub noted_dirty : (lo hi : ℕ) {a b : List ℕ} → ((x : ℕ) → lo ≤ x → x < hi → dirty_end (ends x) ≡ true) → Raises (between (lo - from) (hi - from)) a b → Raises (noted ends from lo hi) a b
   noted_dirty lo hi {a} {b} h r =
       raises_same (between (lo - from) (hi - from)) (noted ends from lo hi) a b
-      (λ i. sym (range_ext lo hi (from + i) (dirty_end (ends (from + i))) true (h (from + i)) ∙ and_all (between lo hi (from + i)) ∙ range_bits from lo hi i)) r
+      (λ i. sym (range_ext lo hi (from + i) (dirty_end (ends (from + i))) true (h (from + i)) ∙ and-true (between lo hi (from + i)) ∙ range_bits from lo hi i)) r
 
 -- ---- from a table on, by way of one entry
 
-one_page : (w x : ℕ) → OneEntry w x (x + 1)
-one_page w x = record { some = omega arith; same = λ y p q. ap (λ (z : ℕ). z / w) (omega arith) }
-
-module _ (k : Walks) (read : ℕ → Word) (left : ℕ) (from : ℕ) where
+module _ (k : Walks) (read : ℕ → Option ℕ) (left : ℕ) (from : ℕ) where
   pub noted_entry : (table a lo hi : ℕ) {m n : List ℕ} → a ≡ entry_for k.page left table lo → OneEntry (pages_in k.page left) lo hi
       → Raises (noted (entry_end k read left a) from lo hi) m n → Raises (noted (table_end k read left table) from lo hi) m n
   noted_entry table a lo hi e one r =
@@ -103,10 +84,10 @@ module _ (k : Walks) (read : ℕ → Word) (left : ℕ) (from : ℕ) where
   -- ---- from an entry on, by what stands there
 
   module _ (a lo hi : ℕ) where
-    pub noted_abort : (m : List ℕ) → read a ≡ Unreachable → Raises (noted (entry_end k read left a) from lo hi) m m
+    pub noted_abort : (m : List ℕ) → read a ≡ None → Raises (noted (entry_end k read left a) from lo hi) m m
     noted_abort m e = noted_clean (entry_end k read left a) from lo hi m (λ x p q. ap dirty_end (end_abort k read left a x e))
 
-    module _ (v : ℕ) (e : read a ≡ Value v) where
+    module _ (v : ℕ) (e : read a ≡ Some v) where
       pub noted_fault : (kind : FaultKind) (m : List ℕ) → decoded k.page k.limit.0 left v ≡ next.Fault kind → Raises (noted (entry_end k read left a) from lo hi) m m
       noted_fault kind m d = noted_clean (entry_end k read left a) from lo hi m (λ x p q. ap dirty_end (end_fault_lem k read left a x v kind e d))
 
@@ -124,66 +105,31 @@ module _ (k : Walks) (read : ℕ → Word) (left : ℕ) (from : ℕ) where
 
 -- ---- an entry of the last level, whose one page is x
 
-module _ (k : Walks) (read : ℕ → Word) (from a x v : ℕ) (e : read a ≡ Value v) where
-  pub noted_page_clean : (m : List ℕ) → leaf_dirty v (decoded k.page k.limit.0 0 v) ≡ false → Raises (noted (entry_end k read 0 a) from x (x + 1)) m m
-  noted_page_clean m d = noted_clean (entry_end k read 0 a) from x (x + 1) m (λ y p q. end_dirty k read 0 a y v e refl ∙ d)
-
-  pub noted_page_dirty : {m n : List ℕ} → from ≤ x → leaf_dirty v (decoded k.page k.limit.0 0 v) ≡ true → Raises (λ i. eqb i (x - from)) m n
-      → Raises (noted (entry_end k read 0 a) from x (x + 1)) m n
-  noted_page_dirty {m} {n} h d r =
-      let s : x - from + 1 ≡ x + 1 - from = omega arith in
-      noted_dirty (entry_end k read 0 a) from x (x + 1) (λ y p q. end_dirty k read 0 a y v e refl ∙ d) (rw s at (run_one (x - from) r))
+module _ (k : Walks) (read : ℕ → Option ℕ) (from a x v : ℕ) (e : read a ≡ Some v) where
+  -- by what its descriptor says
+  pub noted_value : {m n : List ℕ} → from ≤ x → Raises (λ i. eqb i (x - from) && leaf_dirty v (decoded k.page k.limit.0 0 v)) m n → Raises (noted (entry_end k read 0 a) from x (x + 1)) m n
+  noted_value {m} {n} h r =
+      let s : x + 1 - from ≡ x - from + 1 = omega arith in
+      raises_same (λ i. eqb i (x - from) && leaf_dirty v (decoded k.page k.limit.0 0 v)) (noted (entry_end k read 0 a) from x (x + 1)) m n
+      (λ i.
+      ap (λ (t : Bool). t && leaf_dirty v (decoded k.page k.limit.0 0 v)) (sym (range_bits from x (x + 1) i ∙ ap (λ (hi : ℕ). between (x - from) hi i) s ∙ between_one (x - from) i))
+      ∙ ap (λ (d : Bool). between x (x + 1) (from + i) && d) (sym (end_dirty k read 0 a (from + i) v e refl))) r
 
 -- ---- entries of the last level that lie one after another
 
--- a descriptor wholly in the pool is read
-fetched_in : (ee : Bool) (pool : List ℕ) (base a at : ℕ) → a ≡ base + at → at + 8 ≤ length pool → fetched ee pool base a ≡ Value (desc ee pool at)
-unfolding fetched
-fetched_in ee pool base a at e h =
-    let p : base ≤ a = omega arith in
-    let q : a + 8 ≤ base + length pool = omega arith in
-    let s : a - base ≡ at = omega arith in
-    rw (le-leb base a p, le-leb (a + 8) (base + length pool) q, s)
-
--- where page y ends, the entry of page lo being so far into the pool: the pool read as if it began at address 0
-abbrev pub run_end : PhysAddr → ℕ → Bool → List ℕ → ℕ → ℕ → ℕ → End
-run_end limit page ee pool first lo y = entry_end (walks (record { 0 = 0 }) limit page) (fetched ee pool 0) 0 (first + 8 * (y - lo)) y
-
-module _ (limit : PhysAddr) (page : ℕ) (ee : Bool) (pool : List ℕ) (first lo from : ℕ) where
-  -- the entry of page x, its descriptor being v: clean, or dirty
-  module _ (at x v : ℕ) (e : at ≡ first + 8 * (x - lo)) (h : at + 8 ≤ length pool) (is : v ≡ desc ee pool at) where
-    here : {m n : List ℕ} → Raises (noted (entry_end (walks (record { 0 = 0 }) limit page) (fetched ee pool 0) 0 at) from x (x + 1)) m n
-        → Raises (noted (run_end limit page ee pool first lo) from x (x + 1)) m n
-    here r =
-        noted_same (run_end limit page ee pool first lo) from (entry_end (walks (record { 0 = 0 }) limit page) (fetched ee pool 0) 0 at) x (x + 1)
-        (λ y p q. ap (λ (a : ℕ). entry_end (walks (record { 0 = 0 }) limit page) (fetched ee pool 0) 0 a y) (let s : at ≡ first + 8 * (y - lo) = omega arith in s)) r
-
-    read : fetched ee pool 0 at ≡ Value v
-    read = fetched_in ee pool 0 at at (omega arith) h ∙ ap Value (sym is)
-
-    pub noted_run_clean : (m : List ℕ) → leaf_dirty v (decoded page limit.0 0 v) ≡ false → Raises (noted (run_end limit page ee pool first lo) from x (x + 1)) m m
-    noted_run_clean m d = here (noted_page_clean (walks (record { 0 = 0 }) limit page) (fetched ee pool 0) from at x v read m d)
-
-    pub noted_run_dirty : {m n : List ℕ} → from ≤ x → leaf_dirty v (decoded page limit.0 0 v) ≡ true → Raises (λ i. eqb i (x - from)) m n
-        → Raises (noted (run_end limit page ee pool first lo) from x (x + 1)) m n
-    noted_run_dirty b d r = here (noted_page_dirty (walks (record { 0 = 0 }) limit page) (fetched ee pool 0) from at x v read b d r)
-
-  -- all of them: what the table notes
-  pub noted_run : (base : PhysAddr) (table hi : ℕ) {m n : List ℕ} → OneRun page table base.0 (length pool) lo hi → first ≡ entry_for page 0 table lo - base.0
-      → Raises (noted (run_end limit page ee pool first lo) from lo hi) m n → Raises (noted (table_end (walks base limit page) (fetched ee pool base.0) 0 table) from lo hi) m n
-  noted_run base table hi one f r = noted_alike (table_end k (fetched ee pool base.0) 0 table) from (run_end limit page ee pool first lo) lo hi alike r
-    where
-      k : Walks
-      k = walks base limit page
-
-      alike : (y : ℕ) → lo ≤ y → y < hi → dirty_end (run_end limit page ee pool first lo y) ≡ dirty_end (table_end k (fetched ee pool base.0) 0 table y)
-      alike y p q =
-          let at = first + 8 * (y - lo) in
-          let h : first + 8 * (y - lo) + 8 ≤ length pool = omega (arith, one.most, one.least) in
-          let e : entry_for page 0 table y ≡ base.0 + (first + 8 * (y - lo)) = omega (arith, run_entry page table base.0 (length pool) lo hi one y p q, one.least) in
-          end_dirty (walks (record { 0 = 0 }) limit page) (fetched ee pool 0) 0 at y (desc ee pool at) (fetched_in ee pool 0 at at (omega arith) h) refl
-          ∙ sym (ap dirty_end (table_end_lem k (fetched ee pool base.0) 0 table y)
-          ∙ end_dirty k (fetched ee pool base.0) 0 (entry_for page 0 table y) y (desc ee pool at) (fetched_in ee pool base.0 (entry_for page 0 table y) at e h) refl)
+-- page x of a run, its descriptor at an offset of the pool
+pub noted_run : (base limit : PhysAddr) (page : ℕ) (ee : Bool) (pool : List ℕ) (table lo hi from : ℕ) → OneRun page table base.0 (length pool) lo hi → (x at v : ℕ) → lo ≤ x → x < hi
+    → at ≡ entry_for page 0 table lo - base.0 + 8 * (x - lo) → v ≡ desc ee pool at → from ≤ x → {m n : List ℕ}
+    → Raises (λ i. eqb i (x - from) && leaf_dirty v (decoded page limit.0 0 v)) m n
+    → Raises (noted (table_end (walks base limit page) (fetched ee pool base.0) 0 table) from x (x + 1)) m n
+noted_run base limit page ee pool table lo hi from one x at v p q e is h r =
+    let k = walks base limit page in
+    let read = fetched ee pool base.0 in
+    let a = entry_for page 0 table x in
+    let goes = run_entry page table base.0 (length pool) lo hi one x p q in
+    let s : a - base.0 ≡ at = omega (arith, goes, e) in
+    let there = fetched_at ee pool base.0 a (omega (arith, goes, one.least)) (omega (arith, goes, one.most)) in
+    noted_page k read 0 from table a x refl (noted_value k read from a x v (there ∙ ap (λ (i : ℕ). Some (desc ee pool i)) s ∙ ap Some (sym is)) h r)
 
 -- ---- a whole search over cleared bytes
 

@@ -1,11 +1,10 @@
 -- Where the walk of a page ends from a table on, and whether that is a dirty leaf (RULES 17.2). Pages are counted within their range.
-use Rattle.std.specs.Prelude.{ℕ, suc, ◌+◌, ◌*◌, ◌-◌, ◌/◌, ◌%◌, ◌^◌, ◌≤◌, ◌<◌, Bool, true, false, not, ◌&&◌, ◌⊎◌, ◌≡◌}
+use Rattle.std.specs.Prelude.{ℕ, suc, ◌+◌, ◌*◌, ◌-◌, ◌/◌, ◌%◌, ◌^◌, ◌≤◌, ◌<◌, Bool, true, false, not, ◌&&◌, ◌⊎◌, ◌≡◌, Option}
 use Rattle.vmsa.specs.Granules.{Paged}
 use Rattle.vmsa.specs.Fields.{ap2, af, dbm, no_tables}
 use Rattle.geometry.specs.Geometry.{level_of, page_size, stride_bits}
 use Rattle.vmsa.specs.declared.PhysAddr.{PhysAddr}
 use Rattle.vmsa.specs.declared.FaultKind.TheVariants.{ExternalAbort}
-use Rattle.lookup.specs.declared.Word.{Word}
 use Rattle.lookup.specs.declared.Next.{Next}
 use Rattle.lookup.specs.declared.Next.TheVariants as next
 use Rattle.lookup.specs.declared.Context.{Context}
@@ -52,10 +51,10 @@ unfoldable pub entry_for : ℕ → ℕ → ℕ → ℕ → ℕ
 entry_for p left table x = table + 8 * (x / pages_in p left % 2 ^ stride_bits p)
 
 -- where page x ends from a table on, and from the entry at an address on
-unfoldable pub table_end : Walks → (ℕ → Word) → ℕ → ℕ → ℕ → End
+unfoldable pub table_end : Walks → (ℕ → Option ℕ) → ℕ → ℕ → ℕ → End
 table_end k read left table x = untabled (descend (context_for k x) read (suc left) no_tables table).end
 
-unfoldable pub entry_end : Walks → (ℕ → Word) → ℕ → ℕ → ℕ → End
+unfoldable pub entry_end : Walks → (ℕ → Option ℕ) → ℕ → ℕ → ℕ → End
 entry_end k read left a x =
     untabled (on_word (ended (fault ExternalAbort (level_of left))) (followed (context_for k x) (descend (context_for k x) read left) no_tables left a) (read a)).end
 

@@ -1,4 +1,5 @@
 // The geometry of the tables, for any granule: pages, levels, what an entry maps, the addresses in a descriptor.
+// Page bits and the levels left are numbers, and some steps take any page bits up to 16: a Granule in their place would ask more of a caller.
 #![tactic(auto)]
 
 ghost use Rattle.std.specs.Prelude.{◌≡◌, ◌≤◌, ◌<◌, ◌^◌};
@@ -9,6 +10,7 @@ ghost use Rattle.geometry.specs.Geometry.{page_size as page_size_of, unaligned a
 use vmsa::VirtAddr;
 
 // The bytes of a page, and of a table.
+#[tactic(auto, unfolding(crate::specs::Geometry::page_size))]
 pub fn page_size(p: u8) -> u64
     requires { p ≤ 16 }
     ensures { (result ≡ page_size_of p) × (0 < result) }
@@ -16,6 +18,7 @@ pub fn page_size(p: u8) -> u64
     descriptor::power(p)
 }
 
+#[tactic(auto, unfolding(crate::specs::Geometry::unaligned))]
 pub fn unaligned(p: u8, x: u64) -> bool
     requires { p ≤ 16 }
     ensures { result ≡ unaligned_at p x }
@@ -24,6 +27,7 @@ pub fn unaligned(p: u8, x: u64) -> bool
 }
 
 // The page number of an address.
+#[tactic(auto, unfolding(crate::specs::Geometry::page_of))]
 pub fn page_of(p: u8, a: VirtAddr) -> u64
     requires { p ≤ 16 }
     ensures { result ≡ page_of p a.0 }
@@ -40,6 +44,7 @@ pub fn entries(p: u8) -> u64
 }
 
 // The level, from the levels left below it.
+#[tactic(auto, unfolding(crate::specs::Geometry::level_of))]
 pub fn level(left: u8) -> u8
     requires { left ≤ 3 }
     ensures { result ≡ level_of left }
@@ -48,6 +53,7 @@ pub fn level(left: u8) -> u8
 }
 
 // The lowest address bit of a level's index.
+#[tactic(auto, using(crate::proofs::Geometry::stride_le), unfolding(crate::specs::Geometry::shift_of))]
 fn shift_of(p: u8, left: u8) -> u64
     requires { Paged p × (left ≤ 3) }
     ensures { (result ≡ shift_of p left) × (result ≤ 55) }
@@ -57,6 +63,7 @@ fn shift_of(p: u8, left: u8) -> u64
 }
 
 // How many bytes an entry of a level maps.
+#[tactic(auto, using(crate::proofs::Geometry::span_le, crate::proofs::Geometry::span_pos), unfolding(crate::specs::Geometry::span))]
 pub fn span(p: u8, left: u8) -> u64
     requires { Paged p × (left ≤ 3) }
     ensures { (result ≡ span_of p left) × (0 < result) × (result ≤ 2 ^ 55) }
@@ -65,6 +72,7 @@ pub fn span(p: u8, left: u8) -> u64
 }
 
 // Whether a level has blocks.
+#[tactic(auto, unfolding(crate::specs::Geometry::block_at))]
 pub fn block_at(p: u8, left: u8) -> bool
     requires { Paged p × (left ≤ 3) }
     ensures { result ≡ block_at p left }
@@ -73,6 +81,7 @@ pub fn block_at(p: u8, left: u8) -> bool
 }
 
 // The levels left at the first level of a range.
+#[tactic(auto, using(crate::proofs::Geometry::in_level), unfolding(crate::specs::Geometry::first_left))]
 pub fn first_left(p: u8, t: u8) -> u8
     requires { Paged p × (tsz_least ≤ t) × (t ≤ tsz_most) }
     ensures { (result ≡ first_left p t) × (result ≤ 3) }
@@ -92,6 +101,7 @@ pub fn first_left(p: u8, t: u8) -> u8
 }
 
 // The address in bits 47 down to n.
+#[tactic(auto, using(crate::proofs::Geometry::cut_lt), unfolding(crate::specs::Geometry::cut))]
 fn cut(v: u64, n: u64) -> u64
     requires { n < 64 }
     ensures { (result ≡ cut_at v (2 ^ n)) × (result < address_limit) }
@@ -100,6 +110,7 @@ fn cut(v: u64, n: u64) -> u64
 }
 
 // The address of a table in its descriptor.
+#[tactic(auto, unfolding(crate::specs::Geometry::page_size))]
 pub fn table_in(p: u8, v: u64) -> u64
     requires { p ≤ 16 }
     ensures { (result ≡ cut_at v (page_size_of p)) × (result < address_limit) }
@@ -108,6 +119,7 @@ pub fn table_in(p: u8, v: u64) -> u64
 }
 
 // The output address in the descriptor of a block or page.
+#[tactic(auto, unfolding(crate::specs::Geometry::span))]
 pub fn output_in(p: u8, left: u8, v: u64) -> u64
     requires { Paged p × (left ≤ 3) }
     ensures { (result ≡ cut_at v (span_of p left)) × (result < address_limit) }
@@ -115,7 +127,8 @@ pub fn output_in(p: u8, left: u8, v: u64) -> u64
     cut(v, shift_of(p, left))
 }
 
-// The end of the output addresses.
+// The end of the output addresses, by the code that a regime has: a table of the rules.
+#[tactic(auto, unfolding(crate::specs::Geometry::output_limit, crate::specs::Geometry::output_bits))]
 pub fn output_limit(code: u8) -> u64
     requires { code ≤ output_most }
     ensures { (result ≡ output_limit code) × (result ≤ address_limit) }

@@ -17,12 +17,11 @@ use Rattle.geometry.specs.Geometry.{page_size}
 use Rattle.vmsa.specs.declared.Regime.{Regime}
 use Rattle.vmsa.specs.declared.Leaf.{Leaf}
 use Rattle.vmsa.specs.declared.Refusal.{Refusal}
-use Rattle.checks.specs.declared.Checked.{Checked}
-use Rattle.checks.specs.declared.Checked.TheVariants.{Accepted, Refused}
+use Rattle.checks.specs.Order.{Checked}
+use Rattle.std.specs.Prelude.{Ok, Err}
 use Rattle.checks.specs.Order.{harvest_check}
-use Rattle.checks.proofs.Accept.{Settled, settled, harvest_accepted}
+use Rattle.checks.proofs.Accept.{settled, harvest_accepted}
 use Rattle.lookup.specs.Trace.{End, fault, leaf}
-use Rattle.lookup.specs.Steps.{pool_reader, locate}
 use Rattle.lookup.specs.Packing.{Backed}
 use Rattle.lookup.proofs.Reach.{locate_backed, in_pool}
 use Rattle.walk.specs.Walk.{pool_bytes, with_pool_bytes}
@@ -85,7 +84,7 @@ record Allowed (r : Regime) (first count : ℕ) (m : List ℕ) : Type 0 where
   fits : r.pool.start + r.pool.length ≤ length m
   long : length (clean_pool r first count (pool_bytes r.pool m)) ≡ r.pool.length
 
-allowed : (r : Regime) (first count : ℕ) (m map : List ℕ) → harvest_check (length m) r first count (length map) ≡ Accepted → Allowed r first count m
+allowed : (r : Regime) (first count : ℕ) (m map : List ℕ) → harvest_check (length m) r first count (length map) ≡ Ok tt → Allowed r first count m
 allowed r first count m map e =
     let s = settled (length m) r (harvest_accepted (length m) r first count (length map) e).0 in
     record {
@@ -98,18 +97,18 @@ module _ (r : Regime) (first count : ℕ) (m map : List ℕ) where
   cleaned = clean_pool r first count (pool_bytes r.pool m)
 
   -- what is refused is left as it was
-  pub harvest_refused : (x : Refusal) → (harvest r first count m map).reply ≡ Refused x → harvest r first count m map ≡ harvested (Refused x) m map
+  pub harvest_refused : (x : Refusal) → (harvest r first count m map).reply ≡ Err x → harvest r first count m map ≡ harvested (Err x) m map
   unfolding harvest
   harvest_refused x q = by (harvest_check (length m) r first count (length map)) q
     where
-      by : (y : Checked) → (harvest_by r first count m map y).reply ≡ Refused x → harvest_by r first count m map y ≡ harvested (Refused x) m map
-      by Accepted q = clash (cc)
-      by (Refused y) q = ap (λ (z : Checked). harvested z m map) q
+      by : (y : Checked) → (harvest_by r first count m map y).reply ≡ Err x → harvest_by r first count m map y ≡ harvested (Err x) m map
+      by (Ok _) q = clash (cc)
+      by (Err y) q = ap (λ (z : Checked). harvested z m map) q
 
-  pub harvest_kept : (x : Refusal) → (harvest r first count m map).reply ≡ Refused x → (harvest r first count m map).memory ≡ m
+  pub harvest_kept : (x : Refusal) → (harvest r first count m map).reply ≡ Err x → (harvest r first count m map).memory ≡ m
   harvest_kept x q = ap (λ (h : Harvested Checked). h.memory) (harvest_refused x q)
 
-  pub map_kept : (x : Refusal) → (harvest r first count m map).reply ≡ Refused x → (harvest r first count m map).map ≡ map
+  pub map_kept : (x : Refusal) → (harvest r first count m map).reply ≡ Err x → (harvest r first count m map).map ≡ map
   map_kept x q = ap (λ (h : Harvested Checked). h.map) (harvest_refused x q)
 
   pub harvest_length : length (harvest r first count m map).memory ≡ length m
@@ -117,16 +116,16 @@ module _ (r : Regime) (first count : ℕ) (m map : List ℕ) where
   harvest_length = by (harvest_check (length m) r first count (length map)) refl
     where
       by : (y : Checked) → harvest_check (length m) r first count (length map) ≡ y → length (harvest_by r first count m map y).memory ≡ length m
-      by (Refused y) e = refl
-      by Accepted e = let a = allowed r first count m map e in length_with m cleaned r.pool.start r.pool.length a.fits a.long
+      by (Err y) e = refl
+      by (Ok _) e = let a = allowed r first count m map e in length_with m cleaned r.pool.start r.pool.length a.fits a.long
 
   pub harvest_bytes : Bytes m → Bytes (harvest r first count m map).memory
   unfolding harvest
   harvest_bytes h = by (harvest_check (length m) r first count (length map))
     where
       by : (y : Checked) → Bytes (harvest_by r first count m map y).memory
-      by (Refused y) = h
-      by Accepted =
+      by (Err y) = h
+      by (Ok _) =
           bytes_append (take r.pool.start m ++ cleaned) (drop (r.pool.start + r.pool.length) m)
           (bytes_append (take r.pool.start m) cleaned (bytes_take m r.pool.start h)
           (pool_bytes_lem r first count (pool_bytes r.pool m) (bytes_take (drop r.pool.start m) r.pool.length (bytes_drop m r.pool.start h))))
@@ -142,8 +141,8 @@ module _ (r : Regime) (first count : ℕ) (m map : List ℕ) where
       beside a (inr h) = get_d_with_after m cleaned r.pool.start r.pool.length a.fits a.long i h
 
       by : (y : Checked) → harvest_check (length m) r first count (length map) ≡ y → get_or (harvest_by r first count m map y).memory i 0 ≡ get_or m i 0
-      by (Refused y) e = refl
-      by Accepted e = beside (allowed r first count m map e) o
+      by (Err y) e = refl
+      by (Ok _) e = beside (allowed r first count m map e) o
 
 -- ---- two memories
 
@@ -166,9 +165,9 @@ unheard r first count m n map long same =
     (by (harvest_check (length m) r first count (length map)) refl)
   where
     by : (y : Checked) → harvest_check (length m) r first count (length map) ≡ y → Heard r (harvest_by r first count m map y) (harvest_by r first count n map y)
-    by (Refused y) e = record { reply = refl; map = refl; pool = same }
-    by Accepted e =
-        let f = subst (λ (k : ℕ). harvest_check k r first count (length map) ≡ Accepted) long e in
+    by (Err y) e = record { reply = refl; map = refl; pool = same }
+    by (Ok _) e =
+        let f = subst (λ (k : ℕ). harvest_check k r first count (length map) ≡ Ok tt) long e in
         record {
           reply = refl;
           map = ap (λ (pool : List ℕ). mapped (reports r pool first) count map) same;

@@ -1,12 +1,11 @@
 -- The walks of the pages asked for, as the search has them: from one table on, page after page.
 use Prim.Native.Nat.{ℕ, zero, suc, ◌+◌, ◌*◌, ◌-◌, ◌/◌, ◌%◌, ◌^◌, ◌<◌, ◌≤◌}
-use mathlib.Core.Bool.{Bool, true, false, not, ◌&&◌, ◌||◌}
+use mathlib.Core.Bool.{Bool, true, false, ◌&&◌, ◌||◌}
 use mathlib.Core.List.{List}
 use mathlib.Core.Path.{◌≡◌, refl, sym, ap, subst, ◌∙◌}
-use native.Mathlib.Nat.{mul_assoc, add-mul, mul_comm, div-mul-le_self, mul-le-mul_left, mul-add-div_right, add_assoc}
+use native.Mathlib.Nat.{mul_assoc, add-mul, mul_comm, div-mul-le_self, mul-le-mul_left, mul-add-div_right}
 use native.Mathlib.Omega.{arith}
-use lib.Dec.{leb, ltb, eqb}
-use lib.ListN.{length}
+use lib.Dec.{leb}
 use lib.Pow.{pow-add}
 use borrow.Author.Tests.{leb-true, leb-false, le-leb, lt-leb}
 use Rattle.descriptor.specs.Bits.{pick}
@@ -18,27 +17,23 @@ use Rattle.geometry.specs.Geometry.{page_size, stride_bits, first_left, level_of
 use Rattle.geometry.proofs.Geometry.{paged}
 use Rattle.vmsa.specs.declared.Regime.{Regime}
 use Rattle.vmsa.specs.declared.Range.{Range}
-use Rattle.vmsa.specs.declared.Leaf.{Leaf}
 use Rattle.vmsa.specs.declared.PhysAddr.{PhysAddr}
 use Rattle.vmsa.specs.declared.FaultKind.{FaultKind}
 use Rattle.vmsa.specs.declared.FaultKind.TheVariants.{ExternalAbort, Translation, AddressSize}
-use Rattle.lookup.specs.declared.Word.{Word}
-use Rattle.lookup.specs.declared.Word.TheVariants.{Value, Unreachable}
+use Rattle.std.specs.Prelude.{Option, Some, None, Err, Ok}
 use Rattle.lookup.specs.declared.Next.{Next}
 use Rattle.lookup.specs.declared.Next.TheVariants as next
-use Rattle.lookup.specs.declared.First.{First}
-use Rattle.lookup.specs.declared.First.TheVariants as firsts
+use Rattle.lookup.specs.Steps.{First}
 use Rattle.lookup.specs.declared.Context.{Context}
 use Rattle.lookup.specs.Trace.{End, fault, leaf, Trace, ended, end_under_hpd}
-use Rattle.lookup.specs.Steps.{decoded, onward, on_word, followed, entry_at, entered, descend, pool_reader, upper, range_of, outside, context_of, left_at_first, first_table, locate}
+use Rattle.lookup.specs.Steps.{decoded, onward, on_word, followed, entry_at, entered, descend, pool_reader, upper, range_of, outside, context_of, first_table}
 use Rattle.lookup.proofs.Levels.{from_first, locate_first}
-use Rattle.bitmap.specs.Map.{between}
 use Rattle.refusals.specs.Tests.{range_pages}
-use Rattle.gather.specs.Ends.{dirty, dirty_end, pages_in, untabled, Walks, walks, context_for, table_end, noted}
+use Rattle.gather.specs.Ends.{dirty, dirty_end, pages_in, untabled, Walks, walks, context_for, table_end}
 use Rattle.gather.proofs.Ends.{pages_pos}
-use Rattle.clean.specs.Clean.{pages, whole_in, Asked, asked, set_again, cleaned_by}
-use Rattle.harvest.specs.Harvest.{reached, reports, asked_of, clean_pool}
-use Rattle.harvest.proofs.Place.{Placed, range_small, page_upper, page_inside, address_low, page_fits}
+use Rattle.clean.specs.Clean.{whole_in, Asked, asked, set_again, cleaned_by}
+use Rattle.harvest.specs.Harvest.{reached, reports, asked_of}
+use Rattle.harvest.proofs.Place.{Placed, page_upper, page_inside, address_low, page_fits}
 
 -- ---- a leaf's level is not above the table's that a search begins with
 
@@ -50,16 +45,16 @@ under_more : (n : ℕ) (e : End) → Under n e → Under (suc n) e
 under_more n (fault kind level) h = tt
 under_more n (leaf a l) h = omega arith
 
-module _ (c : Context) (read : ℕ → Word) where
+module _ (c : Context) (read : ℕ → Option ℕ) where
   under_onward : (n s a v : ℕ) → ((x t : ℕ) → Under n (descend c read n x t).end) → (x : Next) → Under (suc n) (onward (descend c read n) s n a v x).end
   under_onward n s a v h (next.Fault kind) = tt
   under_onward n s a v h (next.Table table) = under_more n (descend c read n (with_table s v) table.0).end (h (with_table s v) table.0)
   under_onward n s a v h next.Leaf = omega arith
 
-  under_word : (n s a : ℕ) → ((x t : ℕ) → Under n (descend c read n x t).end) → (w : Word) → Under (suc n) (on_word (ended (fault ExternalAbort (level_of n))) (followed c (descend c read n) s n a) w).end
+  under_word : (n s a : ℕ) → ((x t : ℕ) → Under n (descend c read n x t).end) → (w : Option ℕ) → Under (suc n) (on_word (ended (fault ExternalAbort (level_of n))) (followed c (descend c read n) s n a) w).end
   unfolding followed
-  under_word n s a h (Value v) = under_onward n s a v h (decoded c.page c.limit.0 n v)
-  under_word n s a h Unreachable = tt
+  under_word n s a h (Some v) = under_onward n s a v h (decoded c.page c.limit.0 n v)
+  under_word n s a h None = tt
 
   pub descend_under : (n s t : ℕ) → Under n (descend c read n s t).end
   unfolding descend entered
@@ -122,7 +117,7 @@ walks_of r = walks r.pool.address (record { 0 = output_limit r.output }) (page_b
 
 -- where steps 1 and 2 lead, for every page of a range
 unfoldable pub first_in : Regime → Range → First
-first_in r g = pick (g.disabled || false) (firsts.Fault Translation) (pick (leb (output_limit r.output) g.root.0) (firsts.Fault AddressSize) (firsts.Table g.root))
+first_in r g = pick (g.disabled || false) (Err Translation) (pick (leb (output_limit r.output) g.root.0) (Err AddressSize) (Ok g.root))
 
 module _ (r : Regime) (first count : ℕ) (z : Sized r) (pl : Placed r first count) where
   abbrev g : Range
@@ -179,20 +174,20 @@ module _ (r : Regime) (first count : ℕ) (z : Sized r) (pl : Placed r first cou
     reached_first f e = ap (λ (t : Trace). t.end) (locate_first r (pool_reader r pool) (address n) f e)
 
     -- where steps 1 and 2 fail, no page reaches a leaf
-    pub reached_fault : (kind : FaultKind) → first_in r g ≡ firsts.Fault kind → reached r pool (first + n) ≡ fault kind 0
-    reached_fault kind e = reached_first (firsts.Fault kind) (first_at n h ∙ e)
+    pub reached_fault : (kind : FaultKind) → first_in r g ≡ Err kind → reached r pool (first + n) ≡ fault kind 0
+    reached_fault kind e = reached_first (Err kind) (first_at n h ∙ e)
 
     deep : PhysAddr → End
     deep root = (descend (context_for (walks_of r) (pl.from + n)) (pool_reader r pool) (suc (first_left p g.tsz)) no_tables root.0).end
 
-    reached_deep : (root : PhysAddr) → first_in r g ≡ firsts.Table root → reached r pool (first + n) ≡ end_under_hpd g.hpd (deep root)
+    reached_deep : (root : PhysAddr) → first_in r g ≡ Ok root → reached r pool (first + n) ≡ end_under_hpd g.hpd (deep root)
     unfolding deep
     reached_deep root e =
-        reached_first (firsts.Table root) (first_at n h ∙ e)
+        reached_first (Ok root) (first_at n h ∙ e)
         ∙ ap (λ (q : Range). end_under_hpd q.hpd (descend (context_of r (address n)) (pool_reader r pool) (suc (first_left p q.tsz)) no_tables root.0).end) (range_at n h)
         ∙ ap (λ (c : Context). end_under_hpd g.hpd (descend c (pool_reader r pool) (suc (first_left p g.tsz)) no_tables root.0).end) (context_at_lem n h)
 
-    module _ (root : PhysAddr) (e : first_in r g ≡ firsts.Table root) where
+    module _ (root : PhysAddr) (e : first_in r g ≡ Ok root) where
       pub reached_end : untabled (reached r pool (first + n)) ≡ table_end (walks_of r) (pool_reader r pool) (first_left p g.tsz) root.0 (pl.from + n)
       unfolding table_end deep
       reached_end = ap untabled (reached_deep root e) ∙ hpd_untabled g.hpd (deep root)

@@ -4,20 +4,18 @@ use mathlib.Core.Bool.{Bool, true, false, not, ◌&&◌, ◌||◌}
 use mathlib.Core.Path.{◌≡◌, refl, sym, ap, subst, ◌∙◌}
 use native.Mathlib.Nat.{mul_assoc, add-mul, zero-mul}
 use native.Mathlib.Omega.{arith}
-use lib.Dec.{leb, eqb}
-use lib.Pow.{pow-add, pow_mono, pow_pos, high, low, high_ones, shl_lt}
+use lib.Dec.{leb}
+use lib.Pow.{pow-add, pow_mono, high, low, high_ones, shl_lt}
 use borrow.Author.Tests.{leb-true, eq-eqb, ne_eqb}
 use Rattle.descriptor.specs.Bits.{pick}
 use Rattle.descriptor.proofs.Tests.{and_true}
 use Rattle.vmsa.specs.Limits.{tsz_least, tsz_most, Sized}
 use Rattle.vmsa.specs.Granules.{page_bits_of, Paged}
-use Rattle.geometry.specs.Geometry.{page_size}
 use Rattle.geometry.proofs.Geometry.{paged}
 use Rattle.vmsa.specs.declared.Regime.{Regime}
-use Rattle.vmsa.specs.declared.Range.{Range}
 use Rattle.refusals.specs.Tests.{all_pages, range_pages, in_range0, in_range1}
 use Rattle.checks.proofs.Accept.{Ranged}
-use Rattle.lookup.specs.Steps.{upper, range_of, outside}
+use Rattle.lookup.specs.Steps.{upper, outside}
 
 -- ---- page c * M + x of a range of M pages
 

@@ -1,6 +1,6 @@
 -- What the search and the cleaning leave is the harvest of the pool.
-use Prim.Native.Nat.{ℕ, zero, suc, ◌+◌, ◌*◌, ◌-◌, ◌/◌, ◌%◌, ◌^◌, ◌<◌, ◌≤◌}
-use mathlib.Core.Bool.{Bool, true, false, ◌&&◌}
+use Prim.Native.Nat.{ℕ, zero, suc, ◌+◌, ◌*◌, ◌-◌, ◌/◌, ◌^◌, ◌<◌, ◌≤◌}
+use mathlib.Core.Bool.{Bool, true, false}
 use mathlib.Core.List.{List, ◌++◌}
 use mathlib.Core.Path.{◌≡◌, refl, sym, ap, subst, ◌∙◌}
 use native.Mathlib.Nat.{add-zero, add-sub_cancel_left}
@@ -19,24 +19,31 @@ use Rattle.vmsa.specs.declared.PhysAddr.{PhysAddr}
 use Rattle.vmsa.specs.declared.FaultKind.{FaultKind}
 use Rattle.vmsa.specs.declared.FaultKind.TheVariants.{Translation, AddressSize}
 use Rattle.descriptor.proofs.Tests.{clash}
-use Rattle.lookup.specs.declared.First.{First}
-use Rattle.lookup.specs.declared.First.TheVariants as firsts
+use Rattle.std.specs.Prelude.{Err, Ok}
 use Rattle.lookup.specs.declared.Context.{Context}
 use Rattle.lookup.specs.Trace.{End, fault}
 use Rattle.lookup.specs.Steps.{fetched, pool_reader, range_of, context_of, no_range, root_beyond, first_table}
-use Rattle.checks.specs.declared.Checked.TheVariants.{Accepted}
-use Rattle.checks.specs.Order.{harvest_check}
+use Rattle.checks.specs.Order.{regime_check, asked_check, harvest_check}
+use Rattle.checks.proofs.Accept.{settled, asked_accepted, harvest_accepted}
 use Rattle.walk.proofs.Parts.{put_back}
 use Rattle.bitmap.specs.Map.{bytes_for, mapped, cleared, Raises}
 use Rattle.bitmap.proofs.Laws.{cleared_mapped}
-use Rattle.refusals.specs.Tests.{range_pages}
-use Rattle.gather.specs.Ends.{dirty_end, Walks, walks, context_for, table_end, noted, Limited}
+use Rattle.gather.specs.Ends.{dirty_end, walks, table_end, noted, Limited}
 use Rattle.gather.proofs.Notes.{noted_mapped}
 use Rattle.clean.specs.Clean.{pages, asked, set_again, cleaned_by, Cleans}
 use Rattle.clean.proofs.Laws.{pages_still, cleaned_refl}
 use Rattle.harvest.specs.Harvest.{reached, reports, asked_of, clean_pool, harvested, harvest}
 use Rattle.harvest.proofs.Place.{Placed, range_small}
 use Rattle.harvest.proofs.Link.{range_for, walks_of, first_in, range_at, first_at, address_fits, context_at_lem, reached_fault, reports_end, cleaned_shift}
+
+pub sized_of : (n : ℕ) (r : Regime) → regime_check n r ≡ Ok tt → Sized r
+sized_of n r e = (settled n r e).sized
+
+pub room_of : (r : Regime) (first count bytes : ℕ) → asked_check r first count bytes ≡ Ok tt → bytes_for count ≤ bytes
+room_of r first count bytes e = (asked_accepted r first count bytes e).1
+
+pub most_of : (r : Regime) (first count bytes : ℕ) → asked_check r first count bytes ≡ Ok tt → count ≤ 65536
+most_of r first count bytes e = (asked_accepted r first count bytes e).0.most
 
 size_back : (p x : ℕ) → x * page_size p / page_size p ≡ x
 unfolding page_size
@@ -50,11 +57,11 @@ limited r a c e =
     (record { bits = output_bits r.output; least = least_output r.output; most = most_output r.output; is = refl })
 
 -- the first table stands at the root of the range
-pub table_root : (r : Regime) (a : ℕ) (root : PhysAddr) → first_table r a ≡ firsts.Table root → (range_of r a).root ≡ root
+pub table_root : (r : Regime) (a : ℕ) (root : PhysAddr) → first_table r a ≡ Ok root → (range_of r a).root ≡ root
 unfolding first_table
 table_root r a root e = by (no_range r a) (root_beyond r a) e
   where
-    by : (off beyond : Bool) → pick off (firsts.Fault Translation) (pick beyond (firsts.Fault AddressSize) (firsts.Table (range_of r a).root)) ≡ firsts.Table root → (range_of r a).root ≡ root
+    by : (off beyond : Bool) → pick off (Err Translation) (pick beyond (Err AddressSize) (Ok (range_of r a).root)) ≡ Ok root → (range_of r a).root ≡ root
     by true beyond q = clash (cc)
     by false true q = clash (cc)
     by false false q = cc
@@ -101,7 +108,7 @@ module _ (r : Regime) (first count : ℕ) (z : Sized r) (pl : Placed r first cou
       multiple x = size_back (page_bits_of r) x
 
   -- from the page of the context's input on, all pages are among those of the largest range
-  pub from_small : (context_of r a).input.0 / page_size (context_of r a).page + count ≤ 2 ^ 36
+  from_small : (context_of r a).input.0 / page_size (context_of r a).page + count ≤ 2 ^ 36
   from_small =
       let s = range_small p (range_for r pl).tsz (paged r.granule) (least pl.is_upper) (most pl.is_upper) in
       rw from_first_lem (omega (arith, pl.fits))
@@ -114,8 +121,12 @@ module _ (r : Regime) (first count : ℕ) (z : Sized r) (pl : Placed r first cou
       most true = z.most1
       most false = z.most0
 
+  -- the same by what the code has: its first address, the context there, and a page's size
+  pub from_fits : (y : ℕ) (c : Context) (w : ℕ) → y ≡ a → c ≡ context_of r y → w ≡ page_size c.page → c.input.0 / w + count ≤ 2 ^ 36
+  from_fits y c w e k f = rw (f, k, e) from_small
+
   -- no first table: no page reaches a leaf
-  module _ (kind : FaultKind) (e : first_table r a ≡ firsts.Fault kind) (pool : List ℕ) where
+  module _ (kind : FaultKind) (e : first_table r a ≡ Err kind) (pool : List ℕ) where
     none : (n : ℕ) → n < count → reached r pool (first + n) ≡ fault kind 0
     none n h = reached_fault r first count z pl pool n h kind (sym table_first ∙ e)
 
@@ -133,9 +144,9 @@ module _ (r : Regime) (first count : ℕ) (z : Sized r) (pl : Placed r first cou
             ap (set_again (asked_of r first count) y pool) (ap (reached r pool) (sym q) ∙ none (y - first) (omega arith))
 
   -- from the first table on, by what the code has of the walks
-  module _ (root : PhysAddr) (e : first_table r a ≡ firsts.Table root) (pool : List ℕ) (c : Context) (k : c ≡ context_of r a) (left from : ℕ)
+  module _ (root : PhysAddr) (e : first_table r a ≡ Ok root) (pool : List ℕ) (c : Context) (k : c ≡ context_of r a) (left from : ℕ)
       (el : left ≡ first_left c.page (range_of r a).tsz) (ef : from ≡ c.input.0 / page_size c.page) where
-    abbrev go : first_in r (range_for r pl) ≡ firsts.Table root
+    abbrev go : first_in r (range_for r pl) ≡ Ok root
     go = sym table_first ∙ e
 
     from_is : from ≡ pl.from
@@ -184,10 +195,21 @@ module _ (r : Regime) (first count : ℕ) (z : Sized r) (pl : Placed r first cou
 
 -- ---- in the memory, the pool being a part of it
 
-pub memory_harvest : (r : Regime) (first count : ℕ) (m map : List ℕ) → harvest_check (length m) r first count (length map) ≡ Accepted → (x filled : List ℕ) (k : ℕ) → k ≡ r.pool.length
+pub memory_harvest : (r : Regime) (first count : ℕ) (m map : List ℕ) → harvest_check (length m) r first count (length map) ≡ Ok tt → (x filled : List ℕ) (k : ℕ) → k ≡ r.pool.length
     → filled ≡ mapped (reports r (take k (drop r.pool.start m)) first) count map → x ≡ clean_pool r first count (take k (drop r.pool.start m))
-    → harvested Accepted (take r.pool.start m ++ (x ++ drop k (drop r.pool.start m))) filled ≡ harvest r first count m map
+    → harvested (Ok tt) (take r.pool.start m ++ (x ++ drop k (drop r.pool.start m))) filled ≡ harvest r first count m map
 unfolding harvest
 memory_harvest r first count m map e x filled k q f g =
     let s = r.pool.start in
-    rw (e, f, g, q) (ap (λ (l : List ℕ). harvested Accepted l (mapped (reports r (take r.pool.length (drop s m)) first) count map)) (put_back m (clean_pool r first count (take r.pool.length (drop s m))) s r.pool.length))
+    rw (e, f, g, q) (ap (λ (l : List ℕ). harvested (Ok tt) l (mapped (reports r (take r.pool.length (drop s m)) first) count map)) (put_back m (clean_pool r first count (take r.pool.length (drop s m))) s r.pool.length))
+
+-- what an accepted harvest goes by
+pub record Ready (n : ℕ) (r : Regime) (first count bits : ℕ) : Type 0 where
+  pub fits : r.pool.start + r.pool.length ≤ n
+  pub regime : regime_check n r ≡ Ok tt
+  pub asked : asked_check r first count bits ≡ Ok tt
+
+pub ready : (n : ℕ) (r : Regime) (first count bits : ℕ) → harvest_check n r first count bits ≡ Ok tt → Ready n r first count bits
+ready n r first count bits e =
+    let h = harvest_accepted n r first count bits e in
+    record { fits = (settled n r h.0).pool.fits; regime = h.0; asked = h.1 }

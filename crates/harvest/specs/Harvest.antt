@@ -1,11 +1,9 @@
 -- The harvest of dirty pages (RULES 17): a map of the pages whose leaves say dirty, and these leaves set again.
-use Rattle.std.specs.Prelude.{ℕ, ◌+◌, ◌*◌, Bool, List, ◌≡◌, length}
+use Rattle.std.specs.Prelude.{ℕ, ◌+◌, ◌*◌, Bool, List, length, Ok, Err}
 use Rattle.vmsa.specs.Granules.{page_bits_of}
 use Rattle.geometry.specs.Geometry.{page_size}
 use Rattle.vmsa.specs.declared.Regime.{Regime}
-use Rattle.vmsa.specs.declared.Pool.{Pool}
-use Rattle.checks.specs.declared.Checked.{Checked}
-use Rattle.checks.specs.declared.Checked.TheVariants.{Accepted, Refused}
+use Rattle.checks.specs.Order.{Checked}
 use Rattle.checks.specs.Order.{harvest_check}
 use Rattle.lookup.specs.Trace.{End}
 use Rattle.lookup.specs.Steps.{pool_reader, locate}
@@ -41,9 +39,9 @@ harvested reply memory map = record { reply = reply; memory = memory; map = map 
 
 -- a refusal changes neither memory nor map
 abbrev pub harvest_by : Regime → ℕ → ℕ → List ℕ → List ℕ → Checked → Harvested Checked
-harvest_by r first count memory map (Refused x) = harvested (Refused x) memory map
-harvest_by r first count memory map Accepted =
-    harvested Accepted (with_pool_bytes r.pool memory (clean_pool r first count (pool_bytes r.pool memory))) (mapped (reports r (pool_bytes r.pool memory) first) count map)
+harvest_by r first count memory map (Err x) = harvested (Err x) memory map
+harvest_by r first count memory map (Ok _) =
+    harvested (Ok tt) (with_pool_bytes r.pool memory (clean_pool r first count (pool_bytes r.pool memory))) (mapped (reports r (pool_bytes r.pool memory) first) count map)
 
 -- count pages from page first on, over the lent memory and the lent map
 unfoldable pub harvest : Regime → ℕ → ℕ → List ℕ → List ℕ → Harvested Checked

@@ -14,7 +14,7 @@ use Rattle.vmsa.specs.declared.Regime.{Regime}
 use Rattle.vmsa.specs.declared.Access.{Access}
 use Rattle.vmsa.specs.declared.Answer.{Answer}
 use Rattle.vmsa.specs.declared.PhysAddr.{PhysAddr}
-use Rattle.checks.specs.declared.Checked.{Checked}
+use Rattle.checks.specs.Order.{Checked}
 use Rattle.tlb.specs.Replies.{Reply, reply_of, reply_to}
 use Rattle.tlb.proofs.Access.{AnAnswer, reply_settles}
 use Rattle.session.specs.declared.Session.{Session as SessionStruct}

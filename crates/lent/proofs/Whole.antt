@@ -1,4 +1,4 @@
--- The lent session as a whole, out of its borrow and back: what walks by hand of this crate share.
+-- The lent session as a whole, out of its borrow and back: what walks by hand of this crate share. Kept, since the documents name it; no proof needs it today.
 --     sval s, IsSession s      the machine value of the session s, and that it is one
 --     Borrow r s               what the `&mut Session` r owns, at the session s
 --     Cell r s, Open r         once it is open: the session's cell, with s in it, and the borrow

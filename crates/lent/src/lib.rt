@@ -1,4 +1,4 @@
-// The lent session: for each call a thin function that takes the session out, makes the call by value, and stores the session handed back where the old one lay.
+// The lent session: for each call a thin function that takes the session out, makes the call by value, and puts the session handed back where the old one lies.
 // Every decision is in the functions by value, and each contract here is theirs, of what lies behind the reference.
 #![tactic(auto)]
 
@@ -9,47 +9,40 @@ ghost use Rattle.session.specs.Model.{handed, set_regime, access, store};
 ghost use Rattle.harvest.specs.Harvest.{harvested};
 ghost use Rattle.session.specs.View.{emptied, leaves, harvest_leaves};
 
-use checks::Checked;
 use session::Session;
-use vmsa::{Access, Answer, PhysAddr, Regime};
+use vmsa::{Access, Answer, PhysAddr, Refusal, Regime};
 
 // Sets the regime of the lent session and empties every entry, where the checks let it through.
-pub fn set_regime(session: &mut Session, memory: &[u8], r: Regime) -> Checked
+pub fn set_regime(session: &mut Session, memory: &[u8], r: Regime) -> Result<(), Refusal>
     ensures { handed session.new memory.now (reply_to result) ≡ leaves session.old memory.now (set_regime r) }
 {
-    let before = *session;
-    let changed = before.set_regime(memory, r);
-    *session = changed.session;
-    changed.reply
+    session.set_regime(memory, r).put_back(session)
 }
 
 // An access in the lent session: refused, or else answered.
 pub fn access(session: &mut Session, memory: &mut [u8], a: Access) -> Answer
     ensures { handed session.new memory.new (reply_of (view result)) ≡ leaves session.old memory.old (access a) }
 {
-    let before = *session;
-    let accessed = before.access(memory, a);
-    *session = accessed.session;
-    accessed.answer
+    session.access(memory, a).put_back(session)
 }
 
 // Stores one descriptor at a physical address in the pool: refused, or else done.
-pub fn store(session: &mut Session, memory: &mut [u8], address: PhysAddr, value: u64) -> Checked
+pub fn store(
+    session: &mut Session,
+    memory: &mut [u8],
+    address: PhysAddr,
+    value: u64,
+) -> Result<(), Refusal>
     ensures { handed session.new memory.new (reply_to result) ≡ leaves session.old memory.old (store address.0 value) }
 {
-    let before = *session;
-    let stored = before.store(memory, address, value);
-    *session = stored.session;
-    stored.reply
+    session.store(memory, address, value).put_back(session)
 }
 
 // Empties every entry of the lent session ("drop all").
 pub fn invalidate_all(session: &mut Session)
     ensures { session.new ≡ emptied session.old }
 {
-    let before = *session;
-    let after = before.invalidate_all();
-    *session = after;
+    *session = session.invalidate_all();
 }
 
 // Harvests count pages from page first on into the lent map, and empties every entry of the lent session: refused, or else done.
@@ -59,11 +52,8 @@ pub fn harvest(
     first: u64,
     count: u64,
     map: &mut [u8],
-) -> Checked
+) -> Result<(), Refusal>
     ensures { (session.new, harvested result memory.new map.new) ≡ harvest_leaves session.old first count memory.old map.old }
 {
-    let before = *session;
-    let left = before.harvest(memory, first, count, map);
-    *session = left.session;
-    left.reply
+    session.harvest(memory, first, count, map).put_back(session)
 }

@@ -1,14 +1,14 @@
--- What a decoded descriptor tells, at any level and for any granule.
-use Prim.Native.Nat.{ℕ, zero, suc, ◌+◌, ◌*◌, ◌-◌, ◌/◌, ◌%◌, ◌^◌, ◌<◌, ◌≤◌}
+-- What a decoded descriptor tells, at any level and for any granule. The laws decoded_unset, decoded_table and decoded_other are kept, since the documents name them.
+use Prim.Native.Nat.{ℕ, suc, ◌+◌, ◌*◌, ◌-◌, ◌/◌, ◌%◌, ◌^◌, ◌<◌, ◌≤◌}
 use mathlib.Core.Bool.{Bool, true, false, not, ◌&&◌, ◌||◌}
 use mathlib.Core.Path.{◌≡◌, refl, sym, ap, ◌∙◌}
 use native.Mathlib.Nat.{mod-lt, suc-mul, mul_assoc, mul-mod_left, div-add-mod', lt_of_mul-lt-mul_right, mul-le-mul_right}
 use native.Mathlib.Omega.{arith}
 use lib.Dec.{leb, eqb}
 use lib.Pow.{pow_pos, pow-add, shr-shr}
-use borrow.Author.Tests.{eqb-true, eqb-false, leb-true, leb-false}
+use borrow.Author.Tests.{eqb-true, leb-true, leb-false}
 use Rattle.descriptor.specs.Bits.{pick, bit}
-use Rattle.descriptor.proofs.Tests.{clash, and_true, or_false, differ, pick_both}
+use Rattle.descriptor.proofs.Tests.{clash, and_true, differ, pick_both}
 use Rattle.vmsa.specs.Limits.{address_limit}
 use Rattle.vmsa.specs.Fields.{table_bits}
 use Rattle.vmsa.specs.Granules.{Paged}
@@ -16,7 +16,6 @@ use Rattle.geometry.specs.Geometry.{page_size, shift_of, span, block_at, cut}
 use Rattle.geometry.proofs.Geometry.{cut_lt, shift_least}
 use Rattle.vmsa.specs.declared.PhysAddr.{PhysAddr}
 use Rattle.vmsa.specs.declared.FaultKind.TheVariants.{Translation, AddressSize}
-use Rattle.lookup.specs.declared.Next.{Next}
 use Rattle.lookup.specs.declared.Next.TheVariants as next
 use Rattle.lookup.specs.Steps.{invalid, is_table, address_in, decoded}
 use Rattle.lookup.proofs.Levels.{table_left}

@@ -7,6 +7,7 @@ use native.Mathlib.Nat.{add-zero, zero-add}
 use native.Mathlib.Omega.{arith}
 use lib.Dec.{lit≤, lit<}
 use lib.ListN.{length}
+use Rattle.std.specs.Prelude.{Result, Ok}
 use Rattle.descriptor.specs.Bytes.{desc}
 use Rattle.descriptor.specs.Bits.{pick}
 use Rattle.geometry.specs.Geometry.{level_of}
@@ -14,7 +15,8 @@ use Rattle.vmsa.specs.Fields.{table_bits, sum_count, no_tables}
 use Rattle.vmsa.proofs.Tables.{no_bits}
 use Rattle.vmsa.specs.declared.FaultKind.{FaultKind}
 use Rattle.vmsa.specs.declared.FaultKind.TheVariants.{AddressSize, Translation, AccessFlag, Permission, ExternalAbort, Alignment}
-use Rattle.lookup.specs.declared.Ending.TheVariants as ending
+use Rattle.lookup.specs.declared.LeafAt.{LeafAt}
+use Rattle.lookup.specs.declared.FaultAt.{FaultAt}
 use Rattle.lookup.specs.declared.Located.{Located}
 use Rattle.lookup.specs.declared.Context.{Context}
 use Rattle.lookup.specs.Trace.{End, fault, leaf, ended, end_under_hpd, under_hpd, shown_end, shown}
@@ -85,30 +87,26 @@ reads_from_lem k first level e = omega arith
 
 module _ (ee : Bool) (pool : List ℕ) (base : ℕ) (hpd : Bool) (first n : ℕ) where
   -- the leaf that they say
-  abbrev pub leaf_in : Located
-  leaf_in = record {
-    ending = ending.Leaf;
-    level = level_in n;
-    reads = reads_from first (level_in n);
+  abbrev pub leaf_in : Result LeafAt FaultAt
+  leaf_in = Ok (record {
     address = record { 0 = place_in n };
     leaf = record { value = desc ee pool (place_in n - base); left = level_of (level_in n); tables = pick hpd 0 (sum_in n) };
-  }
+  })
 
-  fault_by : (k : ℕ) (e : End) → n ≡ packed_end e → k + first ≡ suc (end_level e) → Backed ee pool base e → (number_in n ≡ leaf_number → ⊥)
-      → shown_end (reads_from first (level_in n)) (fault (kind_numbered (number_in n)) (level_in n)) ≡ shown_end k (end_under_hpd hpd e)
-  fault_by k (fault kind level) q h w x =
+  fault_by : (e : End) → n ≡ packed_end e → Backed ee pool base e → (number_in n ≡ leaf_number → ⊥) → shown_end (fault (kind_numbered (number_in n)) (level_in n)) ≡ shown_end (end_under_hpd hpd e)
+  fault_by (fault kind level) q w x =
       let d = digits n level (kind_number kind) 0 0 q w (omega (arith, (kind_back kind).0)) (lit< tt) in
-      rw (d.level_is, d.number_is, (kind_back kind).1, reads_from_lem k first level h)
-  fault_by k (leaf a l) q h w x = absurd (x (digits n (level_of l.left) leaf_number l.tables a q (level_le l.left) (lit≤ tt) w.1).number_is)
+      rw (d.level_is, d.number_is, (kind_back kind).1)
+  fault_by (leaf a l) q w x = absurd (x (digits n (level_of l.left) leaf_number l.tables a q (level_le l.left) (lit≤ tt) w.1).number_is)
 
-  leaf_by : (k : ℕ) (e : End) → n ≡ packed_end e → k + first ≡ suc (end_level e) → Backed ee pool base e → number_in n ≡ leaf_number
-      → (base ≤ place_in n) × (place_in n + 8 ≤ base + length pool) × (leaf_in ≡ shown_end k (end_under_hpd hpd e))
-  leaf_by k (fault kind level) q h w x =
+  leaf_by : (e : End) → n ≡ packed_end e → Backed ee pool base e → number_in n ≡ leaf_number
+      → (base ≤ place_in n) × (place_in n + 8 ≤ base + length pool) × (leaf_in ≡ shown_end (end_under_hpd hpd e))
+  leaf_by (fault kind level) q w x =
       absurd (let z = (kind_back kind).0 in let d = (digits n level (kind_number kind) 0 0 q w (omega arith) (lit< tt)).number_is in omega arith)
-  leaf_by k (leaf a l) q h w x =
+  leaf_by (leaf a l) q w x =
       let d = digits n (level_of l.left) leaf_number l.tables a q (level_le l.left) (lit≤ tt) w.1 in
       let i = in_pool ee pool base a l.value w.2 in
-      rw (d.level_is, d.tables_is, d.address_is, i.same, level_back l.left w.0, reads_from_lem k first (level_of l.left) h) (i.least, i.most, refl)
+      rw (d.level_is, d.tables_is, d.address_is, i.same, level_back l.left w.0) (i.least, i.most, refl)
 
   -- the level in the number is that of the end
   level_by_lem : (e : End) → n ≡ packed_end e → Backed ee pool base e → level_in n ≡ end_level e
@@ -123,10 +121,16 @@ module _ (ee : Bool) (pool : List ℕ) (base : ℕ) (hpd : Bool) (first n : ℕ)
     pub first_most : first ≤ level_in n + 1
     first_most = let e = level_by_lem p.trace.end same p.end in let r = p.reads in omega arith
 
+    reads_back : reads_from first (level_in n) ≡ length p.trace.visited
+    reads_back = rw (level_by_lem p.trace.end same p.end) (reads_from_lem (length p.trace.visited) first (end_level p.trace.end) p.reads)
+
     pub fault_unpacked : (number_in n ≡ leaf_number → ⊥) → shown (reads_from first (level_in n)) (ended (fault (kind_numbered (number_in n)) (level_in n))) ≡ shown 0 (under_hpd hpd p.trace)
     unfolding shown
-    fault_unpacked x = rw (add-zero (reads_from first (level_in n)), zero-add (length p.trace.visited)) (fault_by (length p.trace.visited) p.trace.end same p.reads p.end x)
+    fault_unpacked x = rw (add-zero (reads_from first (level_in n)), reads_back, zero-add (length p.trace.visited), fault_by p.trace.end same p.end x)
 
-    pub leaf_unpacked : number_in n ≡ leaf_number → (base ≤ place_in n) × (place_in n + 8 ≤ base + length pool) × (leaf_in ≡ shown 0 (under_hpd hpd p.trace))
+    pub leaf_unpacked : number_in n ≡ leaf_number
+        → (base ≤ place_in n) × (place_in n + 8 ≤ base + length pool) × (◌≡◌ {A = Located} (record { end = leaf_in; reads = reads_from first (level_in n) }) (shown 0 (under_hpd hpd p.trace)))
     unfolding shown
-    leaf_unpacked x = rw (zero-add (length p.trace.visited)) (leaf_by (length p.trace.visited) p.trace.end same p.reads p.end x)
+    leaf_unpacked x =
+        let l = leaf_by p.trace.end same p.end x in
+        (l.0, l.1, rw (reads_back, zero-add (length p.trace.visited), l.2))

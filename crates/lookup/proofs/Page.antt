@@ -1,11 +1,12 @@
 -- A lookup depends on the page of its address alone.
-use Prim.Native.Nat.{ℕ, zero, suc, ◌+◌, ◌*◌, ◌-◌, ◌/◌, ◌%◌, ◌^◌, ◌<◌, ◌≤◌}
-use mathlib.Core.Bool.{Bool, true, false, not, ◌||◌}
+use Prim.Native.Nat.{ℕ, zero, suc, ◌+◌, ◌*◌, ◌-◌, ◌/◌, ◌%◌, ◌^◌, ◌≤◌}
+use mathlib.Core.Bool.{Bool, true, false, ◌||◌}
 use mathlib.Core.Path.{◌≡◌, refl, sym, ap, ◌∙◌, fun_ext}
 use native.Mathlib.Omega.{arith}
 use lib.Dec.{leb, eqb}
 use lib.Pow.{shr-shr, field}
-use Rattle.descriptor.specs.Bits.{pick, bit}
+use Rattle.std.specs.Prelude.{Option}
+use Rattle.descriptor.specs.Bits.{pick}
 use Rattle.vmsa.specs.Limits.{tsz_most, Sized}
 use Rattle.vmsa.specs.Granules.{page_bits_of}
 use Rattle.geometry.proofs.Geometry.{paged}
@@ -15,7 +16,6 @@ use Rattle.vmsa.specs.declared.Range.{Range}
 use Rattle.vmsa.specs.declared.PhysAddr.{PhysAddr}
 use Rattle.vmsa.specs.declared.FaultKind.TheVariants.{ExternalAbort, Translation, AddressSize}
 use Rattle.vmsa.specs.Fields.{no_tables}
-use Rattle.lookup.specs.declared.Word.{Word}
 use Rattle.lookup.specs.declared.Context.{Context}
 use Rattle.lookup.specs.Trace.{fault, Trace, ended, visit, under_hpd}
 use Rattle.lookup.specs.Steps.{on_word, followed, entry_at, entered, descend, upper, range_of, outside, context_of, lookup, locate}
@@ -43,7 +43,7 @@ module _ (base limit : PhysAddr) (p : ℕ) where
   unfolding entry_at span shift_of
   entry_page i j left t e = ap (λ (x : ℕ). t + 8 * (x % 2 ^ stride_bits p)) (cut_page p i j (p + (p - 3) * left) (omega arith) e)
 
-  descend_page : (read : ℕ → Word) (i j : ℕ) → i / 2 ^ p ≡ j / 2 ^ p → (n s t : ℕ) → descend (with_input i) read n s t ≡ descend (with_input j) read n s t
+  descend_page : (read : ℕ → Option ℕ) (i j : ℕ) → i / 2 ^ p ≡ j / 2 ^ p → (n s t : ℕ) → descend (with_input i) read n s t ≡ descend (with_input j) read n s t
   unfolding descend entered followed
   descend_page read i j e zero s t = refl
   descend_page read i j e (suc n) s t =
@@ -71,18 +71,18 @@ module _ (r : Regime) (a b : ℕ) (e : a / 2 ^ page_bits_of r ≡ b / 2 ^ page_b
   unfolding outside
   outside_page t h = rw (upper_page_lem, cut_page (page_bits_of r) a b (64 - t) (omega (arith, page_most)) e)
 
-  descent : Range → (ℕ → Word) → ℕ → Trace
+  descent : Range → (ℕ → Option ℕ) → ℕ → Trace
   descent range read x =
       descend (record { base = r.pool.address; limit = record { 0 = output_limit r.output }; input = record { 0 = x % 2 ^ (64 - range.tsz) }; page = page_bits_of r }) read (suc (first_left (page_bits_of r) range.tsz)) no_tables
       range.root.0
 
-  descent_page : (range : Range) (read : ℕ → Word) → range.tsz ≤ tsz_most → descent range read a ≡ descent range read b
+  descent_page : (range : Range) (read : ℕ → Option ℕ) → range.tsz ≤ tsz_most → descent range read a ≡ descent range read b
   unfolding descent
   descent_page range read h =
       descend_page r.pool.address (record { 0 = output_limit r.output }) (page_bits_of r) read (a % 2 ^ (64 - range.tsz)) (b % 2 ^ (64 - range.tsz))
       (mod_page (page_bits_of r) a b (64 - range.tsz) (omega (arith, page_most)) e) (suc (first_left (page_bits_of r) range.tsz)) no_tables range.root.0
 
-  opened : (read : ℕ → Word) (x : ℕ) (range : Range) → range_of r x ≡ range
+  opened : (read : ℕ → Option ℕ) (x : ℕ) (range : Range) → range_of r x ≡ range
       → locate r read x
       ≡ under_hpd range.hpd (pick (range.disabled || outside range.tsz x) (ended (fault Translation 0))
       (pick (leb (output_limit r.output) range.root.0) (ended (fault AddressSize 0)) (descent range read x)))
@@ -97,7 +97,7 @@ range_most r a z = by (upper a)
     by true = z.most1
     by false = z.most0
 
-pub locate_page : (r : Regime) (read : ℕ → Word) (a b : ℕ) → Sized r → page_of (page_bits_of r) a ≡ page_of (page_bits_of r) b → locate r read a ≡ locate r read b
+pub locate_page : (r : Regime) (read : ℕ → Option ℕ) (a b : ℕ) → Sized r → page_of (page_bits_of r) a ≡ page_of (page_bits_of r) b → locate r read a ≡ locate r read b
 unfolding page_of page_size
 locate_page r read a b z e =
     let range = range_of r b in

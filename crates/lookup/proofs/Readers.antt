@@ -1,11 +1,12 @@
 -- Two readers that no step can tell apart: a lookup over both visits the same addresses and ends alike.
 -- The relation between values is any that decoding and the bits of a table cannot see; Access flag and dirty updates are one such.
-use Prim.Native.Nat.{ℕ, zero, suc, ◌+◌, ◌*◌, ◌%◌}
+use Prim.Native.Nat.{ℕ, zero, suc, ◌%◌}
 use mathlib.Core.Bool.{Bool, true, false, ◌||◌}
-use mathlib.Core.List.{List, [], ◌∷◌}
-use mathlib.Core.Path.{◌≡◌, refl, sym, ap, subst, subst⁻¹, ◌∙◌}
+use mathlib.Core.List.{List, ◌∷◌}
+use mathlib.Core.Path.{◌≡◌, refl, sym, ap, subst, subst⁻¹}
 use lib.Bits.{bit_or}
 use lib.Dec.{leb}
+use Rattle.std.specs.Prelude.{Option, Some, None}
 use Rattle.descriptor.specs.Bits.{pick}
 use Rattle.vmsa.specs.Fields.{table_bits, no_tables, with_table}
 use Rattle.vmsa.specs.Granules.{page_bits_of, Paged}
@@ -13,8 +14,6 @@ use Rattle.geometry.specs.Geometry.{level_of, first_left, output_limit}
 use Rattle.vmsa.specs.declared.Regime.{Regime}
 use Rattle.vmsa.specs.declared.FaultKind.{FaultKind}
 use Rattle.vmsa.specs.declared.FaultKind.TheVariants.{ExternalAbort, Translation, AddressSize}
-use Rattle.lookup.specs.declared.Word.{Word}
-use Rattle.lookup.specs.declared.Word.TheVariants.{Value, Unreachable}
 use Rattle.lookup.specs.declared.Next.{Next}
 use Rattle.lookup.specs.declared.Next.TheVariants as next
 use Rattle.lookup.specs.declared.Context.{Context}
@@ -24,9 +23,9 @@ use Rattle.lookup.proofs.Decoding.{is_table_lem, aligned8}
 use Rattle.lookup.proofs.Reach.{entry_aligned, context_paged}
 
 -- both unreachable, or related values
-pub data AlikeWords (R : ℕ → ℕ → Type 0) : Word → Word → Type 0 where
-  unreachable : AlikeWords R Unreachable Unreachable
-  values : {v w : ℕ} → R v w → AlikeWords R (Value v) (Value w)
+pub data AlikeWords (R : ℕ → ℕ → Type 0) : Option ℕ → Option ℕ → Type 0 where
+  unreachable : AlikeWords R None None
+  values : {v w : ℕ} → R v w → AlikeWords R (Some v) (Some w)
 
 -- the same fault, or leaves at the same address and under the same tables, with related values
 pub data AlikeEnds (R : ℕ → ℕ → Type 0) : End → End → Type 0 where
@@ -40,7 +39,7 @@ pub record AlikeTraces (R : ℕ → ℕ → Type 0) (t u : Trace) : Type 0 where
 module _ (R : ℕ → ℕ → Type 0) (c : Context) (g : Paged c.page)
     (unseen : (left v w : ℕ) → R v w → decoded c.page c.limit.0 left w ≡ decoded c.page c.limit.0 left v)
     (same : (v w : ℕ) → R v w → table_bits w ≡ table_bits v)
-    (read read2 : ℕ → Word) (alike : (a : ℕ) → a % 8 ≡ 0 → AlikeWords R (read a) (read2 a)) where
+    (read read2 : ℕ → Option ℕ) (alike : (a : ℕ) → a % 8 ≡ 0 → AlikeWords R (read a) (read2 a)) where
   -- the sums stay the same
   sum_alike : (sum v w : ℕ) → R v w → with_table sum w ≡ with_table sum v
   unfolding with_table
@@ -54,7 +53,7 @@ module _ (R : ℕ → ℕ → Type 0) (c : Context) (g : Paged c.page)
       (h (with_table sum v) table.0 (aligned8 c.page table.0 g (is_table_lem c.page c.limit.0 left v table d).aligned))
   onward_alike below below2 h sum left a v w k next.Leaf d = record { visited = refl; ends = leaves a left sum k }
 
-  word_alike : (below below2 : ℕ → ℕ → Trace) → ((s t : ℕ) → t % 8 ≡ 0 → AlikeTraces R (below s t) (below2 s t)) → (sum left a : ℕ) {x y : Word} → AlikeWords R x y
+  word_alike : (below below2 : ℕ → ℕ → Trace) → ((s t : ℕ) → t % 8 ≡ 0 → AlikeTraces R (below s t) (below2 s t)) → (sum left a : ℕ) {x y : Option ℕ} → AlikeWords R x y
       → AlikeTraces R (on_word (ended (fault ExternalAbort (level_of left))) (followed c below sum left a) x) (on_word (ended (fault ExternalAbort (level_of left))) (followed c below2 sum left a) y)
   unfolding followed
   word_alike below below2 h sum left a unreachable = record { visited = refl; ends = faults ExternalAbort (level_of left) }
@@ -78,7 +77,7 @@ hpd_alike R hpd (leaves a left sum k) = leaves a left (pick hpd 0 sum) k
 -- from the root on, where the root's address is a multiple of 8
 pub locate_alike : (R : ℕ → ℕ → Type 0) (r : Regime) (a : ℕ)
     → ((left v w : ℕ) → R v w → decoded (context_of r a).page (context_of r a).limit.0 left w ≡ decoded (context_of r a).page (context_of r a).limit.0 left v)
-    → ((v w : ℕ) → R v w → table_bits w ≡ table_bits v) → (read read2 : ℕ → Word) → ((x : ℕ) → x % 8 ≡ 0 → AlikeWords R (read x) (read2 x)) → (range_of r a).root.0 % 8 ≡ 0 → AlikeTraces R (locate r read a) (locate r read2 a)
+    → ((v w : ℕ) → R v w → table_bits w ≡ table_bits v) → (read read2 : ℕ → Option ℕ) → ((x : ℕ) → x % 8 ≡ 0 → AlikeWords R (read x) (read2 x)) → (range_of r a).root.0 % 8 ≡ 0 → AlikeTraces R (locate r read a) (locate r read2 a)
 unfolding lookup locate
 locate_alike R r a unseen same read read2 alike e =
     let range = range_of r a in

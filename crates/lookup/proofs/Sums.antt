@@ -7,6 +7,7 @@ use native.Mathlib.Nat.{zero-lt-suc}
 use lib.Bits.{or_zero_r}
 use lib.Dec.{leb}
 use lib.ListN.{length, get_or}
+use Rattle.std.specs.Prelude.{Option, Some, None}
 use Rattle.descriptor.specs.Bits.{pick}
 use Rattle.vmsa.specs.Granules.{page_bits_of}
 use Rattle.vmsa.specs.Fields.{table_bits, sum_count, no_tables, with_table}
@@ -15,8 +16,6 @@ use Rattle.vmsa.proofs.Tables.{sum_below}
 use Rattle.vmsa.specs.declared.Regime.{Regime}
 use Rattle.vmsa.specs.declared.Leaf.{Leaf}
 use Rattle.vmsa.specs.declared.FaultKind.TheVariants.{ExternalAbort, Translation, AddressSize}
-use Rattle.lookup.specs.declared.Word.{Word}
-use Rattle.lookup.specs.declared.Word.TheVariants.{Value, Unreachable}
 use Rattle.lookup.specs.declared.Next.{Next}
 use Rattle.lookup.specs.declared.Next.TheVariants as next
 use Rattle.lookup.specs.declared.Context.{Context}
@@ -24,30 +23,30 @@ use Rattle.lookup.specs.Trace.{End, fault, leaf, Trace, ended, end_under_hpd}
 use Rattle.lookup.specs.Steps.{decoded, onward, on_word, followed, entry_at, entered, descend, range_of, outside, context_of, lookup, locate}
 
 -- a table's bits join the sum
-abbrev pub with_word : ℕ → Word → ℕ
-with_word sum (Value v) = with_table sum v
-with_word sum Unreachable = sum
+abbrev pub with_word : ℕ → Option ℕ → ℕ
+with_word sum (Some v) = with_table sum v
+with_word sum None = sum
 
 -- the sum of the tables among the descriptors visited: of all but the last, which is the leaf
-abbrev pub sum_along : (ℕ → Word) → ℕ → List ℕ → ℕ
+abbrev pub sum_along : (ℕ → Option ℕ) → ℕ → List ℕ → ℕ
 sum_along read sum [] = sum
 sum_along read sum (last ∷ []) = sum
 sum_along read sum (table ∷ next ∷ rest) = sum_along read (with_word sum (read table)) (next ∷ rest)
 
-module _ (read : ℕ → Word) where
+module _ (read : ℕ → Option ℕ) where
   -- a leaf stands under the sum of the addresses visited, from sum on; where the tables count
   SumIs : Bool → ℕ → List ℕ → End → Type 0
   SumIs hpd sum visited (fault kind level) = Unit {0}
   SumIs hpd sum visited (leaf a l) = l.tables ≡ pick hpd 0 (sum_along read sum visited)
 
   -- one table more in front
-  one_more : (sum a v x : ℕ) (rest : List ℕ) (e : End) → read a ≡ Value v → SumIs false (with_table sum v) (x ∷ rest) e → SumIs false sum (a ∷ x ∷ rest) e
+  one_more : (sum a v x : ℕ) (rest : List ℕ) (e : End) → read a ≡ Some v → SumIs false (with_table sum v) (x ∷ rest) e → SumIs false sum (a ∷ x ∷ rest) e
   unfolding SumIs
   one_more sum a v x rest (fault kind level) q h = tt
-  one_more sum a v x rest (leaf at l) q h = h ∙ ap (λ (w : Word). sum_along read (with_word sum w) (x ∷ rest)) (sym q)
+  one_more sum a v x rest (leaf at l) q h = h ∙ ap (λ (w : Option ℕ). sum_along read (with_word sum w) (x ∷ rest)) (sym q)
 
   module _ (c : Context) where
-    onward_sum : (n sum a v : ℕ) → read a ≡ Value v → ((s t : ℕ) → SumIs false s (descend c read n s t).visited (descend c read n s t).end)
+    onward_sum : (n sum a v : ℕ) → read a ≡ Some v → ((s t : ℕ) → SumIs false s (descend c read n s t).visited (descend c read n s t).end)
         → (y : Next) → SumIs false sum (a ∷ (onward (descend c read n) sum n a v y).visited) (onward (descend c read n) sum n a v y).end
     unfolding SumIs descend entered
     onward_sum n sum a v q h (next.Fault kind) = tt
@@ -61,12 +60,12 @@ module _ (read : ℕ → Word) where
     descend_sum zero sum t = tt
     descend_sum (suc n) sum t = by (λ s u. descend_sum n s u) (read (entry_at c n t)) refl
       where
-        at : Word → Trace
+        at : Option ℕ → Trace
         at w = on_word (ended (fault ExternalAbort (level_of n))) (followed c (descend c read n) sum n (entry_at c n t)) w
 
-        by : ((s u : ℕ) → SumIs false s (descend c read n s u).visited (descend c read n s u).end) → (w : Word) → read (entry_at c n t) ≡ w → SumIs false sum (entry_at c n t ∷ (at w).visited) (at w).end
-        by h (Value v) q = onward_sum n sum (entry_at c n t) v q h (decoded c.page c.limit.0 n v)
-        by h Unreachable q = tt
+        by : ((s u : ℕ) → SumIs false s (descend c read n s u).visited (descend c read n s u).end) → (w : Option ℕ) → read (entry_at c n t) ≡ w → SumIs false sum (entry_at c n t ∷ (at w).visited) (at w).end
+        by h (Some v) q = onward_sum n sum (entry_at c n t) v q h (decoded c.page c.limit.0 n v)
+        by h None q = tt
 
   -- from the root on
   hpd_sum : (hpd : Bool) (visited : List ℕ) (e : End) → SumIs false no_tables visited e → SumIs hpd no_tables visited (end_under_hpd hpd e)
@@ -95,9 +94,9 @@ module _ (read : ℕ → Word) where
   locate_sum r a at l q = subst (SumIs (range_of r a).hpd no_tables (locate r read a).visited) q (locate_sums r a)
 
   -- the sum has four bits
-  below_word : (sum : ℕ) (w : Word) → sum < sum_count → with_word sum w < sum_count
-  below_word sum (Value v) h = sum_below sum v h
-  below_word sum Unreachable h = h
+  below_word : (sum : ℕ) (w : Option ℕ) → sum < sum_count → with_word sum w < sum_count
+  below_word sum (Some v) h = sum_below sum v h
+  below_word sum None h = h
 
   pub below_sum : (visited : List ℕ) (sum : ℕ) → sum < sum_count → sum_along read sum visited < sum_count
   below_sum [] sum h = h
@@ -105,12 +104,12 @@ module _ (read : ℕ → Word) where
   below_sum (table ∷ next ∷ rest) sum h = below_sum (next ∷ rest) (with_word sum (read table)) (below_word sum (read table) h)
 
   -- tables whose bits are clear add nothing
-  clear_word : (sum : ℕ) (w : Word) → ((v : ℕ) → w ≡ Value v → table_bits v ≡ 0) → with_word sum w ≡ sum
+  clear_word : (sum : ℕ) (w : Option ℕ) → ((v : ℕ) → w ≡ Some v → table_bits v ≡ 0) → with_word sum w ≡ sum
   unfolding with_table
-  clear_word sum (Value v) h = rw (h v refl) (or_zero_r sum)
-  clear_word sum Unreachable h = refl
+  clear_word sum (Some v) h = rw (h v refl) (or_zero_r sum)
+  clear_word sum None h = refl
 
-  pub clear_sum : (visited : List ℕ) → ((i : ℕ) → suc i < length visited → (v : ℕ) → read (get_or visited i 0) ≡ Value v → table_bits v ≡ 0) → (sum : ℕ) → sum_along read sum visited ≡ sum
+  pub clear_sum : (visited : List ℕ) → ((i : ℕ) → suc i < length visited → (v : ℕ) → read (get_or visited i 0) ≡ Some v → table_bits v ≡ 0) → (sum : ℕ) → sum_along read sum visited ≡ sum
   clear_sum [] h sum = refl
   clear_sum (last ∷ []) h sum = refl
   clear_sum (table ∷ next ∷ rest) h sum =

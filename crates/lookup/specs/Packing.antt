@@ -1,10 +1,9 @@
 -- How a lookup ends as one number, which passes from level to level in a register. A form of the code: no rule speaks of it.
-use Rattle.std.specs.Prelude.{ℕ, suc, ◌+◌, ◌*◌, ◌≤◌, ◌<◌, Bool, List, [], ◌∷◌, ◌≡◌, length, get_or}
+use Rattle.std.specs.Prelude.{ℕ, suc, ◌+◌, ◌*◌, ◌≤◌, ◌<◌, Bool, List, [], ◌∷◌, ◌≡◌, length, get_or, Some}
 use Rattle.vmsa.specs.Fields.{sum_count}
 use Rattle.geometry.specs.Geometry.{level_of}
 use Rattle.vmsa.specs.declared.FaultKind.{FaultKind}
 use Rattle.vmsa.specs.declared.FaultKind.TheVariants.{AddressSize, Translation, AccessFlag, Permission, ExternalAbort, Alignment}
-use Rattle.lookup.specs.declared.Word.TheVariants.{Value}
 use Rattle.lookup.specs.Trace.{End, fault, leaf, Trace}
 use Rattle.lookup.specs.Steps.{fetched}
 
@@ -44,7 +43,7 @@ end_level (leaf a l) = level_of l.left
 -- an end at one of the four levels; a leaf's sum has four bits, and its value stands at its address in the pool
 abbrev pub Backed : Bool → List ℕ → ℕ → End → Type 0
 Backed ee pool base (fault kind level) = level ≤ 3
-Backed ee pool base (leaf a l) = (l.left ≤ 3) × (l.tables < sum_count) × (fetched ee pool base a ≡ Value l.value)
+Backed ee pool base (leaf a l) = (l.left ≤ 3) × (l.tables < sum_count) × (fetched ee pool base a ≡ Some l.value)
 
 -- a lookup over the pool that the number n stands for: one descriptor was visited at each level, from the first on
 pub record Packs (ee : Bool) (pool : List ℕ) (base first n : ℕ) : Type 0 where

@@ -1,5 +1,5 @@
 -- Steps 1 to 5 of the walk (RULES 6.1 to 6.5, and 6.11): from a guest address to a leaf, or a fault. A reader says what stands at a descriptor address.
-use Rattle.std.specs.Prelude.{ℕ, zero, suc, ◌+◌, ◌*◌, ◌-◌, ◌/◌, ◌%◌, ◌^◌, ◌<◌, Bool, not, ◌&&◌, ◌||◌, List, leb, eqb, length}
+use Rattle.std.specs.Prelude.{ℕ, zero, suc, ◌+◌, ◌*◌, ◌-◌, ◌/◌, ◌%◌, ◌^◌, ◌<◌, Bool, not, ◌&&◌, ◌||◌, List, leb, eqb, length, Option, Some, None, Err, Ok, Result}
 use Rattle.descriptor.specs.Bytes.{desc}
 use Rattle.descriptor.specs.Bits.{pick, bit}
 use Rattle.vmsa.specs.Limits.{address_limit}
@@ -10,13 +10,10 @@ use Rattle.vmsa.specs.declared.Regime.{Regime}
 use Rattle.vmsa.specs.declared.Range.{Range}
 use Rattle.vmsa.specs.declared.PhysAddr.{PhysAddr}
 use Rattle.vmsa.specs.declared.VirtAddr.{VirtAddr}
+use Rattle.vmsa.specs.declared.FaultKind.{FaultKind}
 use Rattle.vmsa.specs.declared.FaultKind.TheVariants.{AddressSize, Translation, ExternalAbort}
-use Rattle.lookup.specs.declared.Word.{Word}
-use Rattle.lookup.specs.declared.Word.TheVariants.{Value, Unreachable}
 use Rattle.lookup.specs.declared.Next.{Next}
 use Rattle.lookup.specs.declared.Next.TheVariants as next
-use Rattle.lookup.specs.declared.First.{First}
-use Rattle.lookup.specs.declared.First.TheVariants as first
 use Rattle.lookup.specs.declared.Context.{Context}
 use Rattle.lookup.specs.Trace.{fault, leaf, Trace, ended, visit, under_hpd}
 
@@ -43,11 +40,11 @@ decoded p limit left v =
 -- ---- step 3: reading a descriptor
 
 -- the value at an address, in the byte order of ee, where the descriptor lies wholly in the pool
-unfoldable pub fetched : Bool → List ℕ → ℕ → ℕ → Word
-fetched ee pool base a = pick (leb base a && leb (a + 8) (base + length pool)) (Value (desc ee pool (a - base))) Unreachable
+unfoldable pub fetched : Bool → List ℕ → ℕ → ℕ → Option ℕ
+fetched ee pool base a = pick (leb base a && leb (a + 8) (base + length pool)) (Some (desc ee pool (a - base))) None
 
 -- what a regime reads of its pool
-abbrev pub pool_reader : Regime → List ℕ → ℕ → Word
+abbrev pub pool_reader : Regime → List ℕ → ℕ → Option ℕ
 pool_reader r pool = fetched r.ee pool r.pool.address.0
 
 -- ---- one level: its entry is read, and followed
@@ -69,17 +66,17 @@ onward below sum left a v next.Leaf = ended (leaf a (record { value = v; left = 
 unfoldable pub followed : Context → (ℕ → ℕ → Trace) → ℕ → ℕ → ℕ → ℕ → Trace
 followed c below sum left a v = onward below sum left a v (decoded c.page c.limit.0 left v)
 
-abbrev pub on_word : Trace → (ℕ → Trace) → Word → Trace
-on_word unreachable value (Value v) = value v
-on_word unreachable value Unreachable = unreachable
+abbrev pub on_word : Trace → (ℕ → Trace) → Option ℕ → Trace
+on_word unreachable value (Some v) = value v
+on_word unreachable value None = unreachable
 
-unfoldable pub entered : Context → (ℕ → Word) → (ℕ → ℕ → Trace) → ℕ → ℕ → ℕ → Trace
+unfoldable pub entered : Context → (ℕ → Option ℕ) → (ℕ → ℕ → Trace) → ℕ → ℕ → ℕ → Trace
 entered c read below left sum table =
     visit (entry_at c left table)
     (on_word (ended (fault ExternalAbort (level_of left))) (followed c below sum left (entry_at c left table)) (read (entry_at c left table)))
 
 -- n levels from a table on, those above it having this sum; the last has no levels left. The clause for none is never reached: level 3 has no tables (is_table)
-unfoldable pub descend : Context → (ℕ → Word) → ℕ → ℕ → ℕ → Trace
+unfoldable pub descend : Context → (ℕ → Option ℕ) → ℕ → ℕ → ℕ → Trace
 descend c read zero sum table = ended (fault Translation 3)
 descend c read (suc left) sum table = entered c read (descend c read left) left sum table
 
@@ -111,24 +108,27 @@ root_beyond r a = leb (output_limit r.output) (range_of r a).root.0
 abbrev pub left_at_first : Regime → ℕ → ℕ
 left_at_first r a = first_left (page_bits_of r) (range_of r a).tsz
 
--- where steps 1 and 2 lead: to a fault before any descriptor is read, or to the table of the first level
+-- where steps 1 and 2 lead: to the table of the first level, or to a fault before any descriptor is read
+abbrev pub First : Type 0
+First = Result PhysAddr FaultKind
+
 unfoldable pub first_table : Regime → ℕ → First
-first_table r a = pick (no_range r a) (first.Fault Translation) (pick (root_beyond r a) (first.Fault AddressSize) (first.Table (range_of r a).root))
+first_table r a = pick (no_range r a) (Err Translation) (pick (root_beyond r a) (Err AddressSize) (Ok (range_of r a).root))
 
 -- steps 1 to 5, a leaf under the sum of all tables on the way
-unfoldable pub lookup : Regime → (ℕ → Word) → ℕ → Trace
+unfoldable pub lookup : Regime → (ℕ → Option ℕ) → ℕ → Trace
 lookup r read a =
     pick (no_range r a) (ended (fault Translation 0))
     (pick (root_beyond r a) (ended (fault AddressSize 0)) (descend (context_of r a) read (suc (left_at_first r a)) no_tables (range_of r a).root.0))
 
 -- the same, the tables counting unless HPD of the address's range is on (RULES 6.11)
-unfoldable pub locate : Regime → (ℕ → Word) → ℕ → Trace
+unfoldable pub locate : Regime → (ℕ → Option ℕ) → ℕ → Trace
 locate r read a = under_hpd (range_of r a).hpd (lookup r read a)
 
 -- what a walk can rely on where there is a first table
 abbrev pub Below : First → Type 0
-Below (first.Fault kind) = Unit {0}
-Below (first.Table root) = root.0 < address_limit
+Below (Err kind) = Unit {0}
+Below (Ok root) = root.0 < address_limit
 
 -- what a walk can rely on where a table follows
 abbrev pub Sound : ℕ → Next → Type 0

@@ -1,11 +1,11 @@
 -- What steps 1 to 5 of the walk (RULES 6, with 6.11) leave: the descriptor addresses visited, and how the steps end.
-use Rattle.std.specs.Prelude.{ℕ, ◌+◌, Bool, List, [], ◌∷◌, length}
+use Rattle.std.specs.Prelude.{ℕ, ◌+◌, Bool, List, [], ◌∷◌, length, Result, Ok, Err}
 use Rattle.descriptor.specs.Bits.{pick}
 use Rattle.vmsa.specs.Fields.{no_tables}
-use Rattle.geometry.specs.Geometry.{level_of}
 use Rattle.vmsa.specs.declared.FaultKind.{FaultKind}
 use Rattle.vmsa.specs.declared.Leaf.{Leaf}
-use Rattle.lookup.specs.declared.Ending.TheVariants as ending
+use Rattle.lookup.specs.declared.LeafAt.{LeafAt}
+use Rattle.lookup.specs.declared.FaultAt.{FaultAt}
 use Rattle.lookup.specs.declared.Located.{Located}
 
 -- a fault with its level, or a leaf and its descriptor's address
@@ -38,9 +38,9 @@ abbrev pub under_hpd : Bool → Trace → Trace
 under_hpd hpd t = record { visited = t.visited; end = end_under_hpd hpd t.end }
 
 -- a trace as the code hands it back, k reads having gone before
-abbrev pub shown_end : ℕ → End → Located
-shown_end n (fault kind level) = record { ending = ending.Fault kind; level = level; reads = n; address = record { 0 = 0 }; leaf = record { value = 0; left = 0; tables = no_tables } }
-shown_end n (leaf a l) = record { ending = ending.Leaf; level = level_of l.left; reads = n; address = record { 0 = a }; leaf = l }
+abbrev pub shown_end : End → Result LeafAt FaultAt
+shown_end (fault kind level) = Err (record { kind = kind; level = level })
+shown_end (leaf a l) = Ok (record { address = record { 0 = a }; leaf = l })
 
 unfoldable pub shown : ℕ → Trace → Located
-shown k t = shown_end (k + length t.visited) t.end
+shown k t = record { end = shown_end t.end; reads = k + length t.visited }

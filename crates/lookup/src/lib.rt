@@ -1,4 +1,5 @@
-// Steps 1 to 5 of the walk: from a guest address to a leaf descriptor, or a fault.
+// Steps 1 to 5 of the walk: from a guest address to a leaf descriptor, or a fault. Page bits and the levels left are numbers, as
+// geometry takes them.
 #![tactic(auto)]
 
 ghost use Rattle.std.specs.Prelude.{◌≡◌, suc, ◌+◌, ◌*◌, ◌≤◌, ◌<◌, ◌^◌};
@@ -31,14 +32,7 @@ pub struct Context {
     pub page: u8,
 }
 
-// What stands at a descriptor address.
-#[derive(Clone, Copy)]
-pub enum Word {
-    Value(u64),
-    Unreachable,
-}
-
-// What a descriptor says.
+// What a descriptor says. Three cases of equal standing: a Result of an Option would hide the leaf in a None.
 #[derive(Clone, Copy)]
 pub enum Next {
     Fault(FaultKind),
@@ -46,42 +40,38 @@ pub enum Next {
     Leaf,
 }
 
-// Where steps 1 and 2 lead: to a fault before any descriptor is read, or to the table of the first level.
+// The leaf that a lookup finds: its descriptor's address, and the leaf.
 #[derive(Clone, Copy)]
-pub enum First {
-    Fault(FaultKind),
-    Table(PhysAddr),
-}
-
-#[derive(Clone, Copy)]
-pub enum Ending {
-    Leaf,
-    Fault(FaultKind),
-}
-
-// How a lookup ends: at a level, after so many reads, at a leaf (its descriptor's address, and the leaf) or in a fault (both 0).
-#[derive(Clone, Copy)]
-pub struct Located {
-    pub ending: Ending,
-    pub level: u8,
-    pub reads: u8,
+pub struct LeafAt {
     pub address: PhysAddr,
     pub leaf: Leaf,
 }
 
+// The fault that a lookup ends in, and its level.
+#[derive(Clone, Copy)]
+pub struct FaultAt {
+    pub kind: FaultKind,
+    pub level: u8,
+}
+
+// How a lookup ends, after so many reads.
+#[derive(Clone, Copy)]
+pub struct Located {
+    pub end: Result<LeafAt, FaultAt>,
+    pub reads: u8,
+}
+
+#[tactic(auto, unfolding(crate::specs::Trace::shown))]
+// A lookup that ends in a fault.
 fn failed(kind: FaultKind, level: u8, reads: u8) -> Located
     ensures { result ≡ shown reads (ended (fault kind level)) }
 {
     Located {
-        ending: Ending::Fault(kind),
-        level: level,
+        end: Err(FaultAt {
+            kind: kind,
+            level: level,
+        }),
         reads: reads,
-        address: PhysAddr(0),
-        leaf: Leaf {
-            value: 0,
-            left: 0,
-            tables: 0,
-        },
     }
 }
 
@@ -100,6 +90,7 @@ fn kind_number(kind: FaultKind) -> u64
 }
 
 // The fault kind of a number.
+#[tactic(auto, unfolding(crate::specs::Packing::kind_numbered))]
 fn kind_numbered(number: u64) -> FaultKind
     ensures { result ≡ kind_numbered number }
 {
@@ -113,8 +104,9 @@ fn kind_numbered(number: u64) -> FaultKind
     }
 }
 
-// How a lookup ends, in one number: it passes in a register, where a struct would pass through memory at every level.
+// How a lookup ends, in one number and not a Result: a struct handed up the levels took 3.7 times the plain version's time, where at most 3 is wanted (docs/PERFORMANCE.md).
 // number is that of the fault kind or of a leaf; sum and address are the tables' sum and the descriptor's address of a leaf, or 0.
+#[tactic(auto, unfolding(crate::specs::Packing::joined))]
 fn pack(left: u8, number: u64, sum: u64, address: PhysAddr) -> u64
     requires { (left ≤ 3) × (number ≤ 6) × (sum < sum_count) × (address.0 < 2 ^ 49) }
     ensures { result ≡ joined (level_of left) number sum address.0 }
@@ -123,6 +115,7 @@ fn pack(left: u8, number: u64, sum: u64, address: PhysAddr) -> u64
     geometry::level(left) as u64 + LEVELS * end
 }
 
+#[tactic(auto, unfolding(crate::specs::Steps::is_table))]
 fn is_table(left: u8, v: u64) -> bool
     ensures { result ≡ is_table left v }
 {
@@ -130,6 +123,7 @@ fn is_table(left: u8, v: u64) -> bool
 }
 
 // Steps 4 and 5: what the descriptor v says at a level. A table is asked for first, since most descriptors on a way are tables.
+#[tactic(auto, unfolding(crate::specs::Steps::decoded, crate::specs::Steps::invalid, crate::specs::Steps::is_table, crate::specs::Steps::address_in))]
 pub fn decode(p: u8, limit: PhysAddr, left: u8, v: u64) -> Next
     requires { Paged p × (left ≤ 3) }
     ensures { (result ≡ decoded p limit.0 left v) × Sound left result }
@@ -153,22 +147,24 @@ pub fn decode(p: u8, limit: PhysAddr, left: u8, v: u64) -> Next
     Next::Leaf
 }
 
-// Step 3: the descriptor at an address, in a pool whose first byte has the address base; big-endian where ee holds.
-pub fn fetch(pool: &[u8], base: PhysAddr, at: PhysAddr, ee: bool) -> Word
+// Step 3: the descriptor at an address, where it lies in the pool, whose first byte has the address base; big-endian where ee holds.
+#[tactic(auto, unfolding(crate::specs::Steps::fetched))]
+pub fn fetch(pool: &[u8], base: PhysAddr, at: PhysAddr, ee: bool) -> Option<u64>
     requires { at.0 < 2 ^ 49 }
     ensures { result ≡ fetched ee pool.now base.0 at.0 }
 {
     if at.0 < base.0 {
-        return Word::Unreachable;
+        return None;
     }
     let offset = (at.0 - base.0) as usize;
     if pool.len() < offset + 8 {
-        return Word::Unreachable;
+        return None;
     }
-    Word::Value(descriptor::load(pool, offset, ee))
+    Some(descriptor::load(pool, offset, ee))
 }
 
 // The address of a table's entry at a level.
+#[tactic(auto, unfolding(crate::specs::Steps::entry_at))]
 pub fn entry_at(c: Context, left: u8, table: PhysAddr) -> PhysAddr
     requires { Paged c.page × (left ≤ 3) × (table.0 < address_limit) }
     ensures { (result.0 ≡ entry_at c left table.0) × (result.0 < 2 ^ 49) }
@@ -178,6 +174,7 @@ pub fn entry_at(c: Context, left: u8, table: PhysAddr) -> PhysAddr
 }
 
 // Bits 62 to 59 of a table descriptor.
+#[tactic(auto, unfolding(vmsa::specs::Fields::table_bits))]
 pub fn table_bits(v: u64) -> u64
     ensures { (result ≡ table_bits v) × (result < sum_count) }
 {
@@ -185,55 +182,28 @@ pub fn table_bits(v: u64) -> u64
 }
 
 // Reads the entry of a table, and follows it. met is the descriptors of the tables on the way, or-ed: its bits 62 to 59 are their sum, the others have no say.
-// The order of the arguments is for speed: the last two pass through memory, where they are used in place.
+// The pool and the byte order are the same at every level and yet beside the Context, which is what the definition context_of has; the others differ.
 #[cycle(enter_follow)]
-fn enter(
-    pool: &[u8],
-    table: PhysAddr,
-    input: VirtAddr,
-    left: u8,
-    base: PhysAddr,
-    ee: bool,
-    page: u8,
-    limit: PhysAddr,
-    met: u64,
-) -> u64
-    requires { Paged page × (left ≤ 3) × (table.0 < address_limit) }
-    ensures { result ≡ packed (descend (context base limit input page) (fetched ee pool.now base.0) (suc left) (table_bits met) table.0) }
+fn enter(pool: &[u8], ee: bool, c: &Context, table: PhysAddr, left: u8, met: u64) -> u64
+    requires { Paged c.now.page × (left ≤ 3) × (table.0 < address_limit) }
+    ensures { result ≡ packed (descend c.now (fetched ee pool.now c.now.base.0) (suc left) (table_bits met) table.0) }
 {
-    let c = Context {
-        base: base,
-        limit: limit,
-        input: input,
-        page: page,
-    };
-    let at = entry_at(c, left, table);
-    let Word::Value(v) = fetch(pool, base, at, ee) else {
+    let at = entry_at(*c, left, table);
+    let Some(v) = fetch(pool, c.base, at, ee) else {
         return pack(left, kind_number(FaultKind::ExternalAbort), 0, PhysAddr(0));
     };
-    follow(pool, at, input, left, base, ee, page, limit, met, v)
+    follow(pool, ee, c, at, left, met, v)
 }
 
 // Decodes the descriptor v at an address, and descends at a table.
 #[cycle(enter_follow)]
-fn follow(
-    pool: &[u8],
-    at: PhysAddr,
-    input: VirtAddr,
-    left: u8,
-    base: PhysAddr,
-    ee: bool,
-    page: u8,
-    limit: PhysAddr,
-    met: u64,
-    v: u64,
-) -> u64
-    requires { Paged page × (left ≤ 3) × (at.0 < 2 ^ 49) }
-    ensures { result ≡ packed (followed (context base limit input page) (descend (context base limit input page) (fetched ee pool.now base.0) left) (table_bits met) left at.0 v) }
+fn follow(pool: &[u8], ee: bool, c: &Context, at: PhysAddr, left: u8, met: u64, v: u64) -> u64
+    requires { Paged c.now.page × (left ≤ 3) × (at.0 < 2 ^ 49) }
+    ensures { result ≡ packed (followed c.now (descend c.now (fetched ee pool.now c.now.base.0) left) (table_bits met) left at.0 v) }
 {
-    match decode(page, limit, left, v) {
+    match decode(c.page, c.limit, left, v) {
         Next::Fault(kind) => pack(left, kind_number(kind), 0, PhysAddr(0)),
-        Next::Table(table) => enter(pool, table, input, left - 1, base, ee, page, limit, met | v),
+        Next::Table(table) => enter(pool, ee, c, table, left - 1, met | v),
         Next::Leaf => pack(left, LEAF, table_bits(met), at),
     }
 }
@@ -253,25 +223,27 @@ fn unpack(pool: &[u8], ee: bool, base: PhysAddr, hpd: bool, first: u8, n: u64) -
     let sum = end / ENDINGS % SUMS;
     let address = end / ENDINGS / SUMS;
     Located {
-        ending: Ending::Leaf,
-        level: level,
+        end: Ok(LeafAt {
+            address: PhysAddr(address),
+            leaf: Leaf {
+                value: descriptor::load(pool, (address - base.0) as usize, ee),
+                left: geometry::level(level),
+                tables: descriptor::select(hpd, 0, sum) as u8,
+            },
+        }),
         reads: reads,
-        address: PhysAddr(address),
-        leaf: Leaf {
-            value: descriptor::load(pool, (address - base.0) as usize, ee),
-            left: geometry::level(level),
-            tables: descriptor::select(hpd, 0, sum) as u8,
-        },
     }
 }
 
+#[tactic(auto, unfolding(crate::specs::Steps::upper))]
 fn upper(a: VirtAddr) -> bool
     ensures { result ≡ upper_at a.0 }
 {
     descriptor::bit(a.0, 55)
 }
 
-// The range of an address.
+// The range of an address. That a regime is Sized, its callers have from the checks; a type for it would be built again at each entry point.
+#[tactic(auto, unfolding(crate::specs::Steps::range_of))]
 pub fn range_of(r: Regime, a: VirtAddr) -> Range
     requires { Sized r }
     ensures { (result ≡ range_of r a.0) × (tsz_least ≤ result.tsz) × (result.tsz ≤ tsz_most) }
@@ -280,6 +252,7 @@ pub fn range_of(r: Regime, a: VirtAddr) -> Range
 }
 
 // Whether an address lies outside a range of size field t.
+#[tactic(auto, unfolding(crate::specs::Steps::outside))]
 pub fn outside(t: u8, a: VirtAddr) -> bool
     requires { (tsz_least ≤ t) × (t ≤ tsz_most) }
     ensures { result ≡ outside_at t a.0 }
@@ -287,22 +260,24 @@ pub fn outside(t: u8, a: VirtAddr) -> bool
     a.0 / descriptor::power(64 - t) != descriptor::select(upper(a), descriptor::power(t) - 1, 0)
 }
 
-// Steps 1 and 2, range being that of the address.
-pub fn first_table(r: Regime, range: Range, a: VirtAddr) -> First
+// Where steps 1 and 2 lead, range being that of the address: to the table of the first level, or to a fault before any descriptor is read.
+#[tactic(auto, unfolding(crate::specs::Steps::first_table))]
+pub fn first_table(r: Regime, range: Range, a: VirtAddr) -> Result<PhysAddr, FaultKind>
     requires { (range ≡ range_of r a.0) × (tsz_least ≤ range.tsz) × (range.tsz ≤ tsz_most) × (r.output ≤ output_most) }
     ensures { (result ≡ first_table r a.0) × Below result }
 {
     if range.disabled | outside(range.tsz, a) {
-        return First::Fault(FaultKind::Translation);
+        return Err(FaultKind::Translation);
     }
     let root = range.root;
     if geometry::output_limit(r.output) <= root.0 {
-        return First::Fault(FaultKind::AddressSize);
+        return Err(FaultKind::AddressSize);
     }
-    First::Table(root)
+    Ok(root)
 }
 
 // What the levels of a lookup share, range being that of the address.
+#[tactic(auto, unfolding(crate::specs::Steps::context_of))]
 pub fn context_of(r: Regime, range: Range, a: VirtAddr) -> Context
     requires { (range ≡ range_of r a.0) × (tsz_least ≤ range.tsz) × (range.tsz ≤ tsz_most) × (r.output ≤ output_most) }
     ensures { (result ≡ context_of r a.0) × Paged result.page }
@@ -324,11 +299,11 @@ pub fn locate(pool: &[u8], r: Regime, a: VirtAddr) -> Located
 {
     let range = range_of(r, a);
     match first_table(r, range, a) {
-        First::Fault(kind) => failed(kind, 0, 0),
-        First::Table(root) => {
+        Err(kind) => failed(kind, 0, 0),
+        Ok(root) => {
             let c = context_of(r, range, a);
             let left = geometry::first_left(c.page, range.tsz);
-            let n = enter(pool, root, c.input, left, c.base, r.ee, c.page, c.limit, 0);
+            let n = enter(pool, r.ee, &c, root, left, 0);
             unpack(pool, r.ee, c.base, range.hpd, geometry::level(left), n)
         }
     }

@@ -1,6 +1,6 @@
 -- A harvest over a memory in which a page's leaf says dirty: it reports the page where it covers it, and leaves the leaf or takes it.
-use Prim.Native.Nat.{ℕ, zero, suc, ◌+◌, ◌-◌, ◌*◌, ◌%◌, ◌≤◌, ◌<◌}
-use mathlib.Core.Bool.{Bool, true, false, ◌&&◌}
+use Prim.Native.Nat.{ℕ, zero, suc, ◌+◌, ◌-◌, ◌*◌, ◌≤◌, ◌<◌}
+use mathlib.Core.Bool.{Bool, true, false}
 use mathlib.Core.List.{List}
 use mathlib.Core.Logic.{◌⊎◌, inl, inr}
 use mathlib.Core.Path.{◌≡◌, refl, sym, ap, subst, subst⁻¹, ◌∙◌}
@@ -8,29 +8,27 @@ use native.Mathlib.Omega.{arith}
 use lib.Dec.{eqb, leb}
 use lib.ListN.{length}
 use borrow.Author.Tests.{eqb-true, eqb-false, leb-true, leb-false}
-use Rattle.descriptor.specs.Bytes.{Bytes, desc}
+use Rattle.descriptor.specs.Bytes.{Bytes}
 use Rattle.descriptor.proofs.Tests.{clash, differ}
 use Rattle.vmsa.specs.Granules.{page_bits_of}
-use Rattle.vmsa.specs.Fields.{set_ap2}
 use Rattle.geometry.specs.Geometry.{page_size}
 use Rattle.vmsa.specs.declared.Regime.{Regime}
 use Rattle.vmsa.specs.declared.Leaf.{Leaf}
-use Rattle.checks.specs.declared.Checked.TheVariants.{Accepted}
+use Rattle.std.specs.Prelude.{Ok}
 use Rattle.lookup.specs.Trace.{End, fault, leaf}
 use Rattle.lookup.proofs.Readers.{AlikeEnds, faults, leaves}
 use Rattle.walk.specs.Walk.{pool_bytes, traced, revalued}
 use Rattle.bitmap.specs.Map.{map_bit}
 use Rattle.bitmap.proofs.Laws.{mapped_bit}
 use Rattle.gather.specs.Ends.{dirty, dirty_end, pages_in}
-use Rattle.clean.specs.Clean.{pages, whole_in, Asked, cleaned_by, Again, Cleaned}
+use Rattle.clean.specs.Clean.{whole_in, Asked}
 use Rattle.harvest.specs.Harvest.{reached, reports, asked_of, clean_pool, harvest}
 use Rattle.walk.proofs.Ends.{found as found_leaf}
-use Rattle.tlb.specs.Walker.{found}
 use Rattle.tlb.proofs.Walking.{usable_sized, usable_root}
 use Rattle.tlb.specs.Ours.{usable, offset_of, located}
-use Rattle.tlb.proofs.Found.{Where, where_found}
+use Rattle.tlb.proofs.Found.{where_found}
 use Rattle.rules_harvest.proofs.Taken.{Taken, taken, pool_after, pool_small}
-use Rattle.rules_harvest.proofs.Reached.{Standing, leaf_stands, all_stand, reached_alike}
+use Rattle.rules_harvest.proofs.Reached.{leaf_stands, all_stand, reached_alike}
 use Rattle.rules_harvest.proofs.Pool.{Sets, final_cleaned, leaf_still}
 use Rattle.rules_harvest.specs.Leaves.{PageLeaf, AskedFor}
 use Rattle.no_page_lost.proofs.Held.{Held}
@@ -65,7 +63,7 @@ held_reaches R m page address l u e d = record { leaf = l; count = length (trace
 
 -- ---- the harvest that covers the page
 
-pub covered : (R : Regime) (m : List ℕ) (first count : ℕ) (map : List ℕ) → (harvest R first count m map).reply ≡ Accepted → (page at : ℕ) → Held R m page at → AskedFor first count page
+pub covered : (R : Regime) (m : List ℕ) (first count : ℕ) (map : List ℕ) → (harvest R first count m map).reply ≡ Ok tt → (page at : ℕ) → Held R m page at → AskedFor first count page
     → map_bit (harvest R first count m map).map (page - first) ≡ true
 unfolding reports
 covered R m first count map e page at h a =
@@ -143,7 +141,7 @@ alike_leaf (leaves b left sum {v = v} {w = w} k) a l q =
     let y : record { value = v; left = left; tables = sum } ≡ l = cc in
     (w, ap (λ (c : ℕ). leaf c (record { value = w; left = left; tables = sum })) x ∙ ap (λ (g : Leaf). leaf a (revalued g w)) y)
 
-module _ (R : Regime) (m : List ℕ) (b : Bytes m) (first count : ℕ) (map : List ℕ) (e : (harvest R first count m map).reply ≡ Accepted) (page at : ℕ) (h : Held R m page at) where
+module _ (R : Regime) (m : List ℕ) (b : Bytes m) (first count : ℕ) (map : List ℕ) (e : (harvest R first count m map).reply ≡ Ok tt) (page at : ℕ) (h : Held R m page at) where
   abbrev pool : List ℕ
   pool = pool_bytes R.pool m
 

@@ -1,37 +1,33 @@
 -- A page whose leaf says dirty, and what a walk or an access leaves of that.
-use Prim.Native.Nat.{ℕ, ◌+◌, ◌-◌, ◌*◌}
+use Prim.Native.Nat.{ℕ}
 use mathlib.Core.Bool.{Bool, true, false}
 use mathlib.Core.List.{List}
-use mathlib.Core.Option.{Option, none, some}
+use Rattle.std.specs.Prelude.{Option, None, Some, Ok, Err}
 use mathlib.Core.Path.{◌≡◌, refl, sym, ap, subst, subst⁻¹, ◌∙◌}
-use native.Mathlib.Omega.{arith}
 use lib.Dec.{eqb}
 use lib.ListN.{length}
 use borrow.Author.Tests.{eqb-true, eq-eqb}
 use Rattle.descriptor.specs.Bytes.{Bytes}
 use Rattle.descriptor.specs.Bits.{pick}
 use Rattle.descriptor.proofs.Tests.{clash}
-use Rattle.vmsa.specs.Granules.{page_bits_of}
 use Rattle.vmsa.specs.Kinds.{writes}
 use Rattle.vmsa.specs.Fields.{dbm}
 use Rattle.vmsa.specs.Answers.{Result, success, dirtied_in}
-use Rattle.geometry.specs.Geometry.{page_size, page_of}
 use Rattle.vmsa.specs.declared.Regime.{Regime}
 use Rattle.vmsa.specs.declared.Access.{Access}
 use Rattle.vmsa.specs.declared.Leaf.{Leaf}
 use Rattle.vmsa.specs.declared.Success.{Success}
-use Rattle.checks.specs.declared.Checked.{Checked}
-use Rattle.checks.specs.declared.Checked.TheVariants.{Accepted, Refused}
+use Rattle.checks.specs.Order.{Checked}
 use Rattle.checks.specs.Order.{and_then, first_of, memory_rows, setting_rows, access_rows}
 use Rattle.checks.proofs.Rows.{both}
 use Rattle.lookup.specs.Trace.{leaf}
-use Rattle.walk.specs.Walk.{pool_bytes, traced, revalued}
+use Rattle.walk.specs.Walk.{traced, revalued}
 use Rattle.gather.specs.Ends.{dirty}
 use Rattle.harvest.specs.Harvest.{reached}
-use Rattle.tlb.specs.Replies.{Reply, answered, updates, Told}
-use Rattle.tlb.specs.Walker.{Spot, lost, found, Walked, put_word, landed, walk_from, walked, recall, access_held, access_by, access_under}
+use Rattle.tlb.specs.Replies.{answered, updates}
+use Rattle.tlb.specs.Walker.{Spot, lost, found, put_word, walk_from, walked, access_held, access_by, access_under}
 use Rattle.tlb.specs.Ours.{offset_of, located, judged, stamped, ours}
-use Rattle.tlb.proofs.Found.{Where, where_found}
+use Rattle.tlb.proofs.Found.{where_found}
 use Rattle.rule3.specs.Lawful.{restamped, Admitted}
 use Rattle.rule3.proofs.Memory.{one, marks}
 use Rattle.rule3.proofs.Agreement.{unmarked}
@@ -74,21 +70,21 @@ module _ (R : Regime) (m : List ℕ) (s : Admitted ours R m) (page at : ℕ) (h 
   pub walked_held : (a : Access) → Held R (walked ours R m a).memory page at
   walked_held a = landed_held (ours.page R a) a (located R m (ours.page R a)) refl
 
-  recall_held : (a : Access) (b : Bool) (o : Result) → Held R (pick b (walked ours R m a) (record { reply = answered o 0; memory = m; kept = none })).memory page at
+  recall_held : (a : Access) (b : Bool) (o : Result) → Held R (pick b (walked ours R m a) (record { reply = answered o 0; memory = m; kept = None })).memory page at
   recall_held a true o = walked_held a
   recall_held a false o = h
 
   held_held : (a : Access) (k : Option Leaf) → Held R (access_held ours R m a k).memory page at
-  held_held a none = walked_held a
-  held_held a (some l) = recall_held a (dirtied_in (judged R l a)) (judged R l a)
+  held_held a None = walked_held a
+  held_held a (Some l) = recall_held a (dirtied_in (judged R l a)) (judged R l a)
 
 -- after an access, by whatever leaf is held of its page
-pub access_held_lem : (R : Regime) (m : List ℕ) → first_of (setting_rows R) ≡ Accepted → Bytes m → (page at : ℕ) → Held R m page at → (a : Access) (k : Option Leaf) → Held R (access_under ours R m a k).memory page at
+pub access_held_lem : (R : Regime) (m : List ℕ) → first_of (setting_rows R) ≡ Ok tt → Bytes m → (page at : ℕ) → Held R m page at → (a : Access) (k : Option Leaf) → Held R (access_under ours R m a k).memory page at
 access_held_lem R m v b page at h a k = by (and_then (first_of (memory_rows (length m) R)) (first_of (access_rows R a))) refl
   where
     by : (c : Checked) → and_then (first_of (memory_rows (length m) R)) (first_of (access_rows R a)) ≡ c → Held R (access_by ours R m a k c).memory page at
-    by Accepted e = held_held R m (record { pool = (both (first_of (memory_rows (length m) R)) (first_of (access_rows R a)) e).0; regime = v; bytes = b }) page at h a k
-    by (Refused x) e = h
+    by (Ok _) e = held_held R m (record { pool = (both (first_of (memory_rows (length m) R)) (first_of (access_rows R a)) e).0; regime = v; bytes = b }) page at h a k
+    by (Err x) e = h
 
 -- ---- a write
 

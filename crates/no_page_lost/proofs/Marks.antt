@@ -1,18 +1,17 @@
 -- What a write leaves of its leaf says dirty, if DBM is set; and no later update takes that away.
-use Prim.Native.Nat.{ℕ, ◌<◌}
+use Prim.Native.Nat.{ℕ}
 use mathlib.Core.Bool.{Bool, true, false, not, ◌&&◌, ◌||◌}
 use mathlib.Core.Path.{◌≡◌, refl, sym, ap, ◌∙◌}
 use native.Mathlib.Omega.{arith}
-use Rattle.descriptor.specs.Bits.{bit, pick}
 use Rattle.descriptor.proofs.Tests.{and_true, clash, or_true}
 use Rattle.vmsa.specs.Fields.{af, ap2, dbm}
 use Rattle.vmsa.specs.Kinds.{writes}
-use Rattle.vmsa.specs.Answers.{Result, success, fault, dirtied_in}
+use Rattle.vmsa.specs.Answers.{Result, success, dirtied_in}
 use Rattle.vmsa.specs.declared.Regime.{Regime}
 use Rattle.vmsa.specs.declared.Access.{Access}
 use Rattle.vmsa.specs.declared.Leaf.{Leaf}
 use Rattle.vmsa.specs.declared.Success.{Success}
-use Rattle.permission.specs.Permission.{writable, flag_fails, alignment_fails, permission_fails}
+use Rattle.permission.specs.Permission.{flag_fails, alignment_fails, permission_fails}
 use Rattle.decision.specs.Decision.{flag_due, dirty_due, updated, failing, passing}
 use Rattle.tlb.specs.Ours.{judged, accessed_in, stamped}
 use Rattle.gather.specs.Ends.{dirty}

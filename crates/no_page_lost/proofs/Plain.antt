@@ -14,8 +14,8 @@ use Rattle.geometry.specs.Geometry.{page_of}
 use Rattle.vmsa.specs.declared.Regime.{Regime}
 use Rattle.vmsa.specs.declared.Access.{Access}
 use Rattle.vmsa.specs.declared.Success.{Success}
-use Rattle.checks.specs.declared.Checked.{Checked}
-use Rattle.checks.specs.declared.Checked.TheVariants.{Accepted, Refused}
+use Rattle.checks.specs.Order.{Checked}
+use Rattle.std.specs.Prelude.{Ok, Err}
 use Rattle.checks.specs.Order.{and_then, first_of, memory_rows, setting_rows, access_rows}
 use Rattle.walk.specs.Walk.{walk}
 use Rattle.bitmap.specs.Map.{map_bit}
@@ -27,8 +27,7 @@ use Rattle.tlb.specs.Ours.{offset_of, ours}
 use Rattle.rule3.specs.Rule3.{plainly}
 use Rattle.rule3.specs.Lawful.{unless_refused}
 use Rattle.rule3.proofs.Final.{lawful}
-use Rattle.rules_harvest.specs.Leaves.{PageLeaf, AskedFor}
-use Rattle.no_page_lost.specs.Lost.{Reported}
+use Rattle.rules_harvest.specs.Leaves.{PageLeaf}
 use Rattle.no_page_lost.specs.Plain.{Walking, Harvesting, Refusing, PlainCalls, none, refused, NoPageLostBy}
 use Rattle.no_page_lost.specs.Plain as plain
 use Rattle.no_page_lost.proofs.Held.{Held, walked_held, wrote_held}
@@ -50,10 +49,10 @@ plain_held R m b a w l d answer e =
 
     by : (x y z : Checked) → first_of (memory_rows (length m) R) ≡ x → first_of (setting_rows R) ≡ y → uncounted (unless_refused (and_then x (and_then y z)) m (walked ours R m a)).reply ≡ answered (success answer) 0
         → Held R (unless_refused (and_then x (and_then y z)) m (walked ours R m a)).memory (ours.page R a) (offset_of R l.address)
-    by (Refused x) y z p v q = clash (cc)
-    by Accepted (Refused y) z p v q = clash (cc)
-    by Accepted Accepted (Refused z) p v q = clash (cc)
-    by Accepted Accepted Accepted p v q = let k = counted (walked ours R m a).reply q in wrote_held R m (record { pool = p; regime = v; bytes = b }) a w answer l d k.0 k.1
+    by (Err x) y z p v q = clash (cc)
+    by (Ok _) (Err y) z p v q = clash (cc)
+    by (Ok _) (Ok _) (Err z) p v q = clash (cc)
+    by (Ok _) (Ok _) (Ok _) p v q = let k = counted (walked ours R m a).reply q in wrote_held R m (record { pool = p; regime = v; bytes = b }) a w answer l d k.0 k.1
 
 -- the same of the page that the write names
 pub wrote_plain : (R : Regime) (m : List ℕ) → Bytes m → (a : Access) → writes a.kind ≡ true → (answer : Success)
@@ -69,17 +68,17 @@ plain_still R m b page at h a =
     subst⁻¹ (λ (t : Told Reply). Held R t.memory page at) (lawful.plain_walk R m a) (by (first_of (memory_rows (length m) R)) (first_of (setting_rows R)) (first_of (access_rows R a)) refl refl)
   where
     by : (x y z : Checked) → first_of (memory_rows (length m) R) ≡ x → first_of (setting_rows R) ≡ y → Held R (unless_refused (and_then x (and_then y z)) m (walked ours R m a)).memory page at
-    by (Refused x) y z p v = h
-    by Accepted (Refused y) z p v = h
-    by Accepted Accepted (Refused z) p v = h
-    by Accepted Accepted Accepted p v = walked_held R m (record { pool = p; regime = v; bytes = b }) page at h a
+    by (Err x) y z p v = h
+    by (Ok _) (Err y) z p v = h
+    by (Ok _) (Ok _) (Err z) p v = h
+    by (Ok _) (Ok _) (Ok _) p v = walked_held R m (record { pool = p; regime = v; bytes = b }) page at h a
 
 -- ---- the claim, of functions that do what `walk` and `harvest` say
 
 module _ (r : Regime) (W : Walking) (H : Harvesting) (K : Refusing)
     (walks : (a : Access) (m : List ℕ) (o : Result) (n : List ℕ) → W a m o n → (o ≡ (walk r a m).result) × (n ≡ (walk r a m).bytes))
     (stays : (m n : List ℕ) → K m n → n ≡ m)
-    (fills : (first count : ℕ) (m map filled : List ℕ) → H first count m map filled → ((harvest r first count m map).reply ≡ Accepted) × (filled ≡ (harvest r first count m map).map)) where
+    (fills : (first count : ℕ) (m map filled : List ℕ) → H first count m map filled → ((harvest r first count m map).reply ≡ Ok tt) × (filled ≡ (harvest r first count m map).map)) where
   all_still : (page at : ℕ) {n k : List ℕ} → PlainCalls W K n k → Bytes n → Held r n page at → Bytes k × Held r k page at
   all_still page at none b h = (b, h)
   all_still page at (refused {n = n} {k = k} w made) b h =

@@ -7,15 +7,15 @@ use Rattle.vmsa.specs.Words.{regime_of}
 use Rattle.vmsa.specs.declared.Regime.{Regime}
 use Rattle.vmsa.specs.declared.RegimeWords.{RegimeWords}
 use Rattle.vmsa.specs.declared.Access.{Access}
-use Rattle.checks.specs.declared.Checked.{Checked}
-use Rattle.checks.specs.declared.Checked.TheVariants.{Accepted, Refused}
+use Rattle.checks.specs.Order.{Checked}
+use Rattle.std.specs.Prelude.{Ok, Err}
 use Rattle.walk.specs.Walk.{Outcome, walk}
 use Rattle.walk.proofs.Promises.{walk_promise}
 use Rattle.harvest.specs.Harvest.{Harvested, harvest}
 use Rattle.harvest.proofs.Laws.{harvest_kept}
 use Rattle.tlb.specs.Replies.{Told}
 use Rattle.words.specs.declared.AnswerWords.{AnswerWords}
-use Rattle.words.specs.Words.{words_of, access_of}
+use Rattle.words.specs.Words.{access_of}
 use Rattle.calls.proofs.Lists.{made_leaves}
 use Rattle.rule3.proofs.Final.{begun_fresh}
 use Rattle.rules_lent.proofs.Chains.{made_leaves as lent_leaves}
@@ -55,14 +55,14 @@ walks_code r (walked lives memory a after x h) =
     (ap (λ (t : Outcome). t.result) e, ap (λ (t : Outcome). t.bytes) e)
 
 fills_code : (r : Regime) {first count : ℕ} {m map filled : List ℕ} → HarvestMade r first count m map filled
-    → ((harvest r first count m map).reply ≡ Accepted) × (filled ≡ (harvest r first count m map).map)
+    → ((harvest r first count m map).reply ≡ Ok tt) × (filled ≡ (harvest r first count m map).map)
 fills_code r (harvested lives memory first count map after filled h) =
-    let e = harvest_code lives memory r first count map after filled Accepted h in
+    let e = harvest_code lives memory r first count map after filled (Ok tt) h in
     (sym (ap (λ (t : Harvested Checked). t.reply) e), ap (λ (t : Harvested Checked). t.map) e)
 
 stays_code : (r : Regime) {m n : List ℕ} → HarvestRefused r m n → n ≡ m
 stays_code r (refused lives memory first count map after filled y h) =
-    let e = harvest_code lives memory r first count map after filled (Refused y) h in
+    let e = harvest_code lives memory r first count map after filled (Err y) h in
     ap (λ (t : Harvested Checked). t.memory) e ∙ harvest_kept r first count memory.now map.now y (sym (ap (λ (t : Harvested Checked). t.reply) e))
 
 pub no_page_lost_by_code : NoPageLostByCode
@@ -73,7 +73,7 @@ walks_c g (walked_c m a m' w h) =
     (ap (λ (t : Told AnswerWords). result_in t.reply) h ∙ result_in_lem (walk (regime_of g) (access_of a) m).result, ap (λ (t : Told AnswerWords). t.memory) h)
 
 fills_c : (g : RegimeWords) {first count : ℕ} {m map filled : List ℕ} → HarvestMadeC g first count m map filled
-    → ((harvest (regime_of g) first count m map).reply ≡ Accepted) × (filled ≡ (harvest (regime_of g) first count m map).map)
+    → ((harvest (regime_of g) first count m map).reply ≡ Ok tt) × (filled ≡ (harvest (regime_of g) first count m map).map)
 fills_c g (harvested_c m first count map m' map' h) = let e = harvest_c m g first count map m' map' 0 h in (e.accepted.0 refl, e.map_left)
 
 stays_c : (g : RegimeWords) {m n : List ℕ} → HarvestRefusedC g m n → n ≡ m

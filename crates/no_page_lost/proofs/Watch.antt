@@ -1,45 +1,33 @@
 -- A page that was written is watched, call by call, up to the harvest that covers it.
-use Prim.Native.Nat.{ℕ, ◌+◌, ◌-◌, ◌≤◌}
+use Prim.Native.Nat.{ℕ, ◌-◌, ◌≤◌}
 use mathlib.Core.Bool.{Bool, true, false}
 use mathlib.Core.List.{List, [], ◌∷◌, ◌++◌}
 use mathlib.Core.Logic.{◌⊎◌, inl, inr}
-use mathlib.Core.Option.{Option, none, some}
+use Rattle.std.specs.Prelude.{Option, Some, Ok, Err}
 use mathlib.Core.Path.{◌≡◌, refl, sym, ap, subst, subst⁻¹, subst₂, ◌∙◌}
-use native.Mathlib.Omega.{arith}
 use lib.ListN.{length}
 use Rattle.descriptor.specs.Bytes.{Bytes}
 use Rattle.descriptor.specs.Bits.{pick}
 use Rattle.descriptor.proofs.Tests.{clash, differ}
-use Rattle.vmsa.specs.Granules.{page_bits_of}
-use Rattle.vmsa.specs.Kinds.{writes}
-use Rattle.vmsa.specs.Fields.{dbm}
 use Rattle.vmsa.specs.Answers.{success}
-use Rattle.geometry.specs.Geometry.{page_of}
 use Rattle.vmsa.specs.declared.Regime.{Regime}
 use Rattle.vmsa.specs.declared.Access.{Access}
-use Rattle.vmsa.specs.declared.Leaf.{Leaf}
-use Rattle.vmsa.specs.declared.Success.{Success}
-use Rattle.vmsa.specs.declared.Refusal.{Refusal}
-use Rattle.checks.specs.declared.Checked.{Checked}
-use Rattle.checks.specs.declared.Checked.TheVariants.{Accepted, Refused}
-use Rattle.checks.specs.Order.{and_then, first_of, memory_rows, setting_rows, access_rows}
-use Rattle.checks.proofs.Rows.{both}
+use Rattle.checks.specs.Order.{Checked}
+use Rattle.checks.specs.Order.{and_then, first_of, memory_rows, setting_rows}
 use Rattle.bitmap.specs.Map.{map_bit}
 use Rattle.harvest.specs.Harvest.{harvest as harvest_of}
 use Rattle.harvest.proofs.Laws.{harvest_kept}
-use Rattle.tlb.specs.Replies.{Reply, done, refused, answered, harvested, Told, told, harvest_reply, uncounted}
-use Rattle.tlb.specs.Walker.{walked, access_under}
+use Rattle.tlb.specs.Replies.{Reply, answered, harvested, harvest_reply, uncounted}
 use Rattle.tlb.specs.Ours.{usable, offset_of, ours}
 use Rattle.session.specs.declared.Session.{Session as SessionStruct}
-use Rattle.session.specs.Model.{Session, Stepped, Handed, Call, set_regime, access, store, drop_all, harvest, held, fresh, set_by, set_call, access_with, store_by, store_in, harvest_in, harvest_to, call}
-use Rattle.session.specs.View.{session_view, viewed, leaves}
+use Rattle.session.specs.Model.{Session, Stepped, Handed, Call, set_regime, access, store, drop_all, harvest, held, fresh, set_by, access_with, store_by, store_in, harvest_in, call}
+use Rattle.session.specs.View.{session_view, viewed}
 use Rattle.session.proofs.Calls.{viewed_leaves}
 use Rattle.calls.specs.Chains.{Event, event, Functions, Leaving, Chain, none_yet, more, is_done, regime_after}
 use Rattle.rule3.specs.Events.{last_regime, settled}
-use Rattle.rule3.specs.Rule3.{plainly, Alike, AccessIn, KeepsTo, Every}
-use Rattle.rule3.specs.Lawful.{unless_refused, Admitted}
+use Rattle.rule3.specs.Rule3.{plainly, Alike, AccessIn, KeepsTo}
 use Rattle.rule3.proofs.Memory.{accepted_usable}
-use Rattle.rule3.proofs.Coherence.{Inv, step}
+use Rattle.rule3.proofs.Coherence.{Inv}
 use Rattle.rule3.proofs.Final.{lawful, chain_inv}
 use Rattle.rules_harvest.specs.Leaves.{PageLeaf, AskedFor}
 use Rattle.no_page_lost.specs.Lost.{Wrote, AcceptedHarvest, Reported, disturbs, Undisturbed, harvests, Unharvested, TookAt, Took, here, earlier, accesses, StoresDropped, ReportedOnce, NoPageLost}
@@ -68,7 +56,7 @@ tail_same e = ap rest_of e
 -- ---- the regime last accepted stays
 
 still_regime : (c : Call) (reply : Reply) (g : Option Regime) → disturbs c reply ≡ false → regime_after c reply g ≡ g
-still_regime (set_regime R) reply g e = ap (λ (b : Bool). pick b (some R) g) e
+still_regime (set_regime R) reply g e = ap (λ (b : Bool). pick b (Some R) g) e
 still_regime (access a) reply g e = refl
 still_regime (store address value) reply g e = refl
 still_regime drop_all reply g e = refl
@@ -83,37 +71,37 @@ between_regime R e page w (x ∷ xs) before u = still_regime x.made x.reply (las
 
 -- ---- one call of the model
 
-module _ (R : Regime) (s : Session) (m : List ℕ) (known : s.regime ≡ some R) (valid : first_of (setting_rows R) ≡ Accepted) (b : Bytes m) (page at : ℕ) (h : Held R m page at) where
+module _ (R : Regime) (s : Session) (m : List ℕ) (known : s.regime ≡ Some R) (valid : first_of (setting_rows R) ≡ Ok tt) (b : Bytes m) (page at : ℕ) (h : Held R m page at) where
   set_held : (q : Regime) (c : Checked) → Held R (set_by ours s m q c).memory page at
-  set_held q Accepted = h
-  set_held q (Refused x) = h
+  set_held q (Ok _) = h
+  set_held q (Err x) = h
 
-  in_held : (a : Access) (g : Option Regime) → g ≡ some R → Held R (access_with ours s m a g).memory page at
+  in_held : (a : Access) (g : Option Regime) → g ≡ Some R → Held R (access_with ours s m a g).memory page at
   in_held a g e = subst⁻¹ (λ (o : Option Regime). Held R (access_with ours s m a o).memory page at) e (access_held_lem R m valid b page at h a (held s.entries (ours.page R a)))
 
   store_held : (address value : ℕ) (c : Checked) → is_done (store_by ours R m address value c).reply ≡ false → Held R (store_by ours R m address value c).memory page at
-  store_held address value Accepted e = differ e
-  store_held address value (Refused x) e = h
+  store_held address value (Ok _) e = differ e
+  store_held address value (Err x) e = h
 
-  stored_held : (address value : ℕ) (g : Option Regime) → g ≡ some R → is_done (store_in ours g m address value).reply ≡ false → Held R (store_in ours g m address value).memory page at
+  stored_held : (address value : ℕ) (g : Option Regime) → g ≡ Some R → is_done (store_in ours g m address value).reply ≡ false → Held R (store_in ours g m address value).memory page at
   stored_held address value g e d =
       subst⁻¹ (λ (o : Option Regime). Held R (store_in ours o m address value).memory page at) e
       (store_held address value (and_then (first_of (memory_rows (length m) R)) (ours.store_check R address)) (subst (λ (o : Option Regime). is_done (store_in ours o m address value).reply ≡ false) e d))
 
   -- a harvest leaves it, or takes it
   taken : (first count : ℕ) (map : List ℕ) (c : Checked) → (harvest_of R first count m map).reply ≡ c
-      → Held R (harvest_of R first count m map).memory page at ⊎ (((harvest_of R first count m map).reply ≡ Accepted) × Takes R m first count map at)
-  taken first count map (Refused x) e = inl (subst⁻¹ (λ (l : List ℕ). Held R l page at) (harvest_kept R first count m map x e) h)
-  taken first count map Accepted e = by (harvest_held R m b first count map e page at h)
+      → Held R (harvest_of R first count m map).memory page at ⊎ (((harvest_of R first count m map).reply ≡ Ok tt) × Takes R m first count map at)
+  taken first count map (Err x) e = inl (subst⁻¹ (λ (l : List ℕ). Held R l page at) (harvest_kept R first count m map x e) h)
+  taken first count map (Ok _) e = by (harvest_held R m b first count map e page at h)
     where
       by : Held R (harvest_of R first count m map).memory page at ⊎ Takes R m first count map at
-          → Held R (harvest_of R first count m map).memory page at ⊎ (((harvest_of R first count m map).reply ≡ Accepted) × Takes R m first count map at)
+          → Held R (harvest_of R first count m map).memory page at ⊎ (((harvest_of R first count m map).reply ≡ Ok tt) × Takes R m first count map at)
       by (inl k) = inl k
       by (inr k) = inr (e, k)
 
 -- what a harvest took, in the event that it makes
 took_at : (R : Regime) (m : List ℕ) → usable R ≡ true → (first count : ℕ) (map : List ℕ) (at address : ℕ) → offset_of R address ≡ at → R.pool.address.0 ≤ address
-    → (harvest_of R first count m map).reply ≡ Accepted → Takes R m first count map at → (e : Event) → e.made ≡ harvest first count map → e.found ≡ m
+    → (harvest_of R first count m map).reply ≡ Ok tt → Takes R m first count map at → (e : Event) → e.made ≡ harvest first count map → e.found ≡ m
     → e.reply ≡ harvest_reply (harvest_of R first count m map).reply (harvest_of R first count m map).map → TookAt R address e
 took_at R m good first count map at address oa la acc t e em ef er =
     record {
@@ -133,16 +121,16 @@ took_at R m good first count map at address oa la acc t e em ef er =
 
 -- ---- one call, in the event that it makes
 
-module _ (R : Regime) (s : Session) (m : List ℕ) (known : s.regime ≡ some R) (valid : first_of (setting_rows R) ≡ Accepted) (b : Bytes m) (page address : ℕ)
+module _ (R : Regime) (s : Session) (m : List ℕ) (known : s.regime ≡ Some R) (valid : first_of (setting_rows R) ≡ Ok tt) (b : Bytes m) (page address : ℕ)
     (least : R.pool.address.0 ≤ address) (h : Held R m page (offset_of R address)) (e : Event) (ef : e.found ≡ m) where
-  harvest_step : (first count : ℕ) (map : List ℕ) → e.made ≡ harvest first count map → (g : Option Regime) → g ≡ some R
+  harvest_step : (first count : ℕ) (map : List ℕ) → e.made ≡ harvest first count map → (g : Option Regime) → g ≡ Some R
       → e.reply ≡ harvest_reply (harvest_in ours g first count m map).reply (harvest_in ours g first count m map).map
       → Held R (harvest_in ours g first count m map).memory page (offset_of R address) ⊎ TookAt R address e
   harvest_step first count map em g eg er =
       subst⁻¹ (λ (o : Option Regime). Held R (harvest_in ours o first count m map).memory page (offset_of R address) ⊎ TookAt R address e) eg
       (by (taken R s m known valid b page (offset_of R address) h first count map (harvest_of R first count m map).reply refl))
     where
-      by : Held R (harvest_of R first count m map).memory page (offset_of R address) ⊎ (((harvest_of R first count m map).reply ≡ Accepted) × Takes R m first count map (offset_of R address))
+      by : Held R (harvest_of R first count m map).memory page (offset_of R address) ⊎ (((harvest_of R first count m map).reply ≡ Ok tt) × Takes R m first count map (offset_of R address))
           → Held R (harvest_of R first count m map).memory page (offset_of R address) ⊎ TookAt R address e
       by (inl k) = inl k
       by (inr k) =
@@ -166,7 +154,7 @@ module _ (F : Functions SessionStruct) (is : Leaving F) (s₀ : SessionStruct) (
   abbrev Watched : Regime → List ℕ → ℕ → ℕ → List Event → Type 0
   Watched R m page address between = Held R m page (offset_of R address) ⊎ Took R address between
 
-  module _ (R : Regime) (e : Event) (page : ℕ) (w : Wrote R e page) (before : List Event) (known : last_regime before ≡ some R) (calm : settled before ≡ true) where
+  module _ (R : Regime) (e : Event) (page : ℕ) (w : Wrote R e page) (before : List Event) (known : last_regime before ≡ Some R) (calm : settled before ≡ true) where
     abbrev address : ℕ
     address = w.leaf.address
 
@@ -185,7 +173,7 @@ module _ (F : Functions SessionStruct) (is : Leaving F) (s₀ : SessionStruct) (
         let g = wrote_plain R e.found b w.by w.writing w.answer said page w.on w.leaf w.modifier in
         subst⁻¹ (λ (l : List ℕ). Held R l page (offset_of R address)) (ap (λ (f : Event). f.left) hd ∙ alike.bytes) g
       where
-        settled_access : (o : Option Regime) → o ≡ some R → (t : Bool) → t ≡ true → AccessIn ours o t w.by e.reply e.found e.left → Alike ours R e.found w.by e.reply e.left
+        settled_access : (o : Option Regime) → o ≡ Some R → (t : Bool) → t ≡ true → AccessIn ours o t w.by e.reply e.found e.left → Alike ours R e.found w.by e.reply e.left
         settled_access o p t q a = subst₂ (λ (o : Option Regime) (t : Bool). AccessIn ours o t w.by e.reply e.found e.left) p q a refl
 
     -- every call after it
@@ -195,7 +183,7 @@ module _ (F : Functions SessionStruct) (is : Leaving F) (s₀ : SessionStruct) (
     next_watched chain made y between hd tl d u least (inr t) = inr (earlier t)
     next_watched {s} {m} {past} {c} {x} chain made y between hd tl d u least (inl h) =
         let i = inv chain in
-        let g : last_regime past ≡ some R = ap last_regime tl ∙ between_regime R e page w between before u ∙ known in
+        let g : last_regime past ≡ Some R = ap last_regime tl ∙ between_regime R e page w between before u ∙ known in
         let v : viewed x ≡ call ours (session_view s) m c = ap viewed (is s m c x made) ∙ viewed_leaves s m c in
         let er : y.reply ≡ (call ours (session_view s) m c).reply = ap (λ (f : Event). f.reply) (sym hd) ∙ ap (λ (t : Stepped). t.reply) v in
         let em : y.made ≡ c = ap (λ (f : Event). f.made) (sym hd) in
@@ -219,19 +207,19 @@ module _ (F : Functions SessionStruct) (is : Leaving F) (s₀ : SessionStruct) (
         next_watched {c = c} {x = x} chain made y ys (head_same q) (tail_same q) u.0 u.1 least (watch chain ys (tail_same q) u.1 least)
 
   -- the harvest that covers the page
-  accepted_by : (c : Checked) (l map : List ℕ) → harvest_reply c l ≡ harvested map → (c ≡ Accepted) × (l ≡ map)
-  accepted_by Accepted l map q = (refl, cc)
-  accepted_by (Refused x) l map q = clash (cc)
+  accepted_by : (c : Checked) (l map : List ℕ) → harvest_reply c l ≡ harvested map → (c ≡ Ok tt) × (l ≡ map)
+  accepted_by (Ok _) l map q = (refl, cc)
+  accepted_by (Err x) l map q = clash (cc)
 
   pub reported_once : {s : SessionStruct} {m : List ℕ} {past : List Event} → Chain F s₀ m₀ s m past → (h e : Event) (between before : List Event) → past ≡ h ∷ between ++ e ∷ before
-      → (R : Regime) → last_regime before ≡ some R → settled before ≡ true → (page : ℕ) (w : Wrote R e page) → Undisturbed between
+      → (R : Regime) → last_regime before ≡ Some R → settled before ≡ true → (page : ℕ) (w : Wrote R e page) → Undisturbed between
       → (first count : ℕ) (map : List ℕ) → AcceptedHarvest h first count map → AskedFor first count page → Reported first map page ⊎ Took R w.leaf.address between
   reported_once none_yet h e between before q R known calm page w u first count map hv asked = clash (cc)
   reported_once (more {s = s} {m = m} {past = past} {c = c} {x = x} chain made) h e between before q R known calm page w u first count map hv asked =
       let hd = head_same q in
       let tl = tail_same q in
       let i = inv chain in
-      let g : last_regime past ≡ some R = ap last_regime tl ∙ between_regime R e page w between before u ∙ known in
+      let g : last_regime past ≡ Some R = ap last_regime tl ∙ between_regime R e page w between before u ∙ known in
       let good = accepted_usable R (i.valid R g) in
       let v : viewed x ≡ call ours (session_view s) m c = ap viewed (is s m c x made) ∙ viewed_leaves s m c in
       let cm : c ≡ harvest first count hv.given = ap (λ (f : Event). f.made) hd ∙ hv.made in
@@ -242,7 +230,7 @@ module _ (F : Functions SessionStruct) (is : Leaving F) (s₀ : SessionStruct) (
       let k = accepted_by (harvest_of R first count m hv.given).reply (harvest_of R first count m hv.given).map map under in
       by m k.0 k.1 (watch R e page w before known calm chain between tl u (leaf_least R e.found page good w.leaf))
     where
-      by : (m : List ℕ) → (harvest_of R first count m hv.given).reply ≡ Accepted → (harvest_of R first count m hv.given).map ≡ map → Watched R m page w.leaf.address between
+      by : (m : List ℕ) → (harvest_of R first count m hv.given).reply ≡ Ok tt → (harvest_of R first count m hv.given).map ≡ map → Watched R m page w.leaf.address between
           → Reported first map page ⊎ Took R w.leaf.address between
       by m acc left (inr t) = inr t
       by m acc left (inl held-now) = inl (subst (λ (l : List ℕ). map_bit l (page - first) ≡ true) left (covered R m first count hv.given acc page (offset_of R w.leaf.address) held-now asked))

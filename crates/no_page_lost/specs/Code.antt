@@ -1,5 +1,5 @@
 -- No written page is lost (RULES 17.5): of the functions of a session by value, over a lent session and in C, and of the plain ones by value and in C, each call by its own contract.
-use Rattle.std.specs.Prelude.{ℕ, List, ◌≢◌, ◌≡◌}
+use Rattle.std.specs.Prelude.{ℕ, List, ◌≢◌, Ok, Err}
 use contract.Lifetimes.{Lfts}
 use denote.Ref.{MutBor, at_last}
 use Rattle.vmsa.specs.Answers.{Result, view}
@@ -9,7 +9,6 @@ use Rattle.vmsa.specs.declared.RegimeWords.{RegimeWords}
 use Rattle.vmsa.specs.declared.Access.{Access}
 use Rattle.vmsa.specs.declared.Answer.{Answer}
 use Rattle.vmsa.specs.declared.Refusal.{Refusal}
-use Rattle.checks.specs.declared.Checked.TheVariants.{Accepted, Refused}
 use Rattle.walk.proofs.walk.Reads as Walk
 use Rattle.harvest.proofs.harvest.Reads as Harvest
 use Rattle.session.specs.declared.Session.{Session as SessionStruct}
@@ -54,12 +53,12 @@ pub data WalkMade (r : Regime) : Access → List ℕ → Result → List ℕ →
 
 pub data HarvestMade (r : Regime) : ℕ → ℕ → List ℕ → List ℕ → List ℕ → Type 0 where
   harvested : (lives : Lfts 2) (memory : MutBor (List ℕ)) (first count : ℕ) (map : MutBor (List ℕ)) (after filled : List ℕ)
-      → Harvest.Learnt lives (memory, (r, (first, (count, (map, tt))))) Accepted (at_last memory after, (r, (first, (count, (at_last map filled, tt)))))
+      → Harvest.Learnt lives (memory, (r, (first, (count, (map, tt))))) (Ok tt) (at_last memory after, (r, (first, (count, (at_last map filled, tt)))))
       → HarvestMade r first count memory.now map.now filled
 
 pub data HarvestRefused (r : Regime) : List ℕ → List ℕ → Type 0 where
   refused : (lives : Lfts 2) (memory : MutBor (List ℕ)) (first count : ℕ) (map : MutBor (List ℕ)) (after filled : List ℕ) (y : Refusal)
-      → Harvest.Learnt lives (memory, (r, (first, (count, (map, tt))))) (Refused y) (at_last memory after, (r, (first, (count, (at_last map filled, tt)))))
+      → Harvest.Learnt lives (memory, (r, (first, (count, (map, tt))))) (Err y) (at_last memory after, (r, (first, (count, (at_last map filled, tt)))))
       → HarvestRefused r memory.now after
 
 abbrev pub NoPageLostByCode : Type 0

@@ -1,6 +1,5 @@
 -- No written page is lost (RULES 17.5), in every list of a session's calls: from the calls, their replies and the memory that each found and left, never from what is stored.
-use Rattle.std.specs.Prelude.{ℕ, ◌-◌, Bool, true, false, List, [], ◌∷◌, ◌++◌, ◌⊎◌, ◌≡◌}
-use Rattle.std.proofs.Math.Option.{Option, some}
+use Rattle.std.specs.Prelude.{ℕ, ◌-◌, Bool, true, false, List, [], ◌∷◌, ◌++◌, ◌⊎◌, ◌≡◌, Some}
 use Rattle.descriptor.specs.Bytes.{Bytes}
 use Rattle.vmsa.specs.Granules.{page_bits_of}
 use Rattle.vmsa.specs.Kinds.{writes}
@@ -85,7 +84,7 @@ pub data Took (R : Regime) (address : ℕ) : List Event → Type 0 where
 abbrev pub ReportedOnce : {S : Type 0} → Functions S → S → Type 0
 ReportedOnce {S} F s₀ =
     (m₀ : List ℕ) → Bytes m₀ → (s : S) (m : List ℕ) (h e : Event) (between before : List Event) → Chain F s₀ m₀ s m (h ∷ between ++ e ∷ before)
-    → (R : Regime) → last_regime before ≡ some R → settled before ≡ true → (page : ℕ) (w : Wrote R e page) → Undisturbed between
+    → (R : Regime) → last_regime before ≡ Some R → settled before ≡ true → (page : ℕ) (w : Wrote R e page) → Undisturbed between
     → (first count : ℕ) (map : List ℕ) → AcceptedHarvest h first count map → AskedFor first count page
     → Reported first map page ⊎ Took R w.leaf.address between
 
@@ -105,5 +104,5 @@ StoresDropped (e ∷ before) = (accesses e.made ≡ true → settled before ≡ 
 abbrev pub NoPageLost : {S : Type 0} → Functions S → S → Type 0
 NoPageLost {S} F s₀ =
     (m₀ : List ℕ) → Bytes m₀ → (s : S) (m : List ℕ) (h e : Event) (between before : List Event) → Chain F s₀ m₀ s m (h ∷ between ++ e ∷ before)
-    → StoresDropped (h ∷ between ++ e ∷ before) → (R : Regime) → last_regime before ≡ some R → (page : ℕ) → Wrote R e page → Undisturbed between → Unharvested between
+    → StoresDropped (h ∷ between ++ e ∷ before) → (R : Regime) → last_regime before ≡ Some R → (page : ℕ) → Wrote R e page → Undisturbed between → Unharvested between
     → (first count : ℕ) (map : List ℕ) → AcceptedHarvest h first count map → AskedFor first count page → Reported first map page

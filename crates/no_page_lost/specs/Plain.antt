@@ -1,5 +1,5 @@
 -- No written page is lost (RULES 17.5), by plain walks and the plain harvest under one regime.
-use Rattle.std.specs.Prelude.{ℕ, ◌-◌, true, List, ◌≡◌}
+use Rattle.std.specs.Prelude.{ℕ, true, List, ◌≡◌}
 use Rattle.descriptor.specs.Bytes.{Bytes}
 use Rattle.vmsa.specs.Granules.{page_bits_of}
 use Rattle.vmsa.specs.Kinds.{writes}

@@ -8,6 +8,7 @@ ghost use Rattle.permission.specs.Permission.{attribute_of, writable as writable
 use vmsa::{Access, Leaf, Regime};
 
 // The attribute byte of a leaf.
+#[tactic(auto, unfolding(crate::specs::Permission::attribute_of))]
 pub fn attribute_of(r: Regime, l: Leaf) -> u8
     ensures { result ≡ attribute_of r l }
 {
@@ -24,6 +25,7 @@ fn below(l: Leaf, n: u8) -> bool
 }
 
 // W (RULES 7.1): writable, clean or dirty.
+#[tactic(auto, unfolding(crate::specs::Permission::writable))]
 pub fn writable(r: Regime, l: Leaf) -> bool
     ensures { result ≡ writable_of r l }
 {
@@ -32,6 +34,7 @@ pub fn writable(r: Regime, l: Leaf) -> bool
 }
 
 // Writable-clean: a write would make it dirty.
+#[tactic(auto, unfolding(crate::specs::Permission::clean))]
 pub fn clean(r: Regime, l: Leaf) -> bool
     ensures { result ≡ clean_of r l }
 {
@@ -39,6 +42,7 @@ pub fn clean(r: Regime, l: Leaf) -> bool
 }
 
 // AP[1], UXN and PXN as they count under the tables above.
+#[tactic(auto, unfolding(crate::specs::Permission::user))]
 fn user(l: Leaf) -> bool
     ensures { result ≡ user_of l }
 {
@@ -48,18 +52,21 @@ fn user(l: Leaf) -> bool
     false
 }
 
+#[tactic(auto, unfolding(crate::specs::Permission::uxn))]
 fn uxn(l: Leaf) -> bool
     ensures { result ≡ uxn_of l }
 {
     descriptor::bit(l.value, vmsa::UXN) | below(l, vmsa::UXN_BELOW)
 }
 
+#[tactic(auto, unfolding(crate::specs::Permission::pxn))]
 fn pxn(l: Leaf) -> bool
     ensures { result ≡ pxn_of l }
 {
     descriptor::bit(l.value, vmsa::PXN) | below(l, vmsa::PXN_BELOW)
 }
 
+#[tactic(auto, unfolding(crate::specs::Permission::may_read))]
 fn may_read(el0: bool, l: Leaf) -> bool
     ensures { result ≡ may_read el0 l }
 {
@@ -67,16 +74,18 @@ fn may_read(el0: bool, l: Leaf) -> bool
 }
 
 // w is W, worked out once; the regime is not handed on. Both keep a hit short (DECISIONS 68).
+#[tactic(auto, unfolding(crate::specs::Permission::may_fetch_with))]
 fn may_fetch(wxn: bool, el0: bool, w: bool, l: Leaf) -> bool
     ensures { result ≡ may_fetch_with wxn el0 w l }
 {
     let u = user(l);
     let from_el0 = !(uxn(l) | wxn & u & w);
     let from_el1 = !(pxn(l) | u & w | wxn & w);
-    descriptor::select_bool(el0, from_el0, from_el1)
+    descriptor::select(el0, from_el0, from_el1)
 }
 
 // Whether a leaf permits an access; a read asks nothing of W.
+#[tactic(auto, unfolding(crate::specs::Permission::permitted, crate::specs::Permission::may_write, crate::specs::Permission::may_fetch))]
 pub fn permitted(r: Regime, a: Access, l: Leaf) -> bool
     ensures { result ≡ permitted_of r a l }
 {
@@ -92,7 +101,8 @@ pub fn permitted(r: Regime, a: Access, l: Leaf) -> bool
     may_read(a.el0, l)
 }
 
-// A read, write or update whose address is not a multiple of its size.
+// A read, write or update whose address is not a multiple of its size. The size is not 0, since row 6 let it through; an Access has any.
+#[tactic(auto, unfolding(crate::specs::Permission::misaligned))]
 pub fn misaligned(a: Access) -> bool
     requires { 0 < a.size }
     ensures { result ≡ misaligned_of a }
@@ -102,6 +112,7 @@ pub fn misaligned(a: Access) -> bool
 }
 
 // Step 6: the Access flag is clear, and nothing sets it.
+#[tactic(auto, unfolding(crate::specs::Permission::flag_fails))]
 pub fn flag_fails(r: Regime, l: Leaf) -> bool
     ensures { result ≡ flag_fails r l }
 {
@@ -109,6 +120,7 @@ pub fn flag_fails(r: Regime, l: Leaf) -> bool
 }
 
 // Step 7: misaligned, on Device memory.
+#[tactic(auto, unfolding(crate::specs::Permission::alignment_fails))]
 pub fn alignment_fails(r: Regime, a: Access, l: Leaf) -> bool
     requires { 0 < a.size }
     ensures { result ≡ alignment_fails r a l }
@@ -120,6 +132,7 @@ pub fn alignment_fails(r: Regime, a: Access, l: Leaf) -> bool
 }
 
 // Step 8: not permitted, or a fetch from Device memory.
+#[tactic(auto, unfolding(crate::specs::Permission::permission_fails))]
 pub fn permission_fails(r: Regime, a: Access, l: Leaf) -> bool
     ensures { result ≡ permission_fails r a l }
 {

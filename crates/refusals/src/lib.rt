@@ -1,10 +1,10 @@
-// When a call is refused: one test for each row of the table.
+// When a call is refused: one test for each row of the table. Page bits and T are numbers here, as geometry takes them.
 #![tactic(auto)]
 
 ghost use Rattle.std.specs.Prelude.{◌≡◌, ◌+◌, ◌-◌, ◌^◌, ◌<◌, ◌≤◌, nat_lt};
 ghost use Rattle.vmsa.specs.Granules.{Paged};
 ghost use Rattle.vmsa.specs.Limits.{tsz_least, tsz_most, harvest_limit, Sized};
-ghost use Rattle.refusals.specs.Tests.{memory_pool_bad, pool_address_bad, tsz_bad, sizes_bad, root_bad, roots_bad, attributes_bad, dirty_state_bad, access_size_bad, last_byte, crossing, store_address_bad, all_pages, range_pages, in_range0, in_range1, page_range_bad, map_length_bad};
+ghost use Rattle.refusals.specs.Tests.{memory_pool_bad, pool_address_bad, tsz_bad, sizes_bad, root_bad, roots_bad, attributes_bad, dirty_state_bad, access_size_bad, last_byte, crossing, store_address_bad, range_pages, in_range0, in_range1, page_range_bad, map_length_bad};
 
 use vmsa::{Access, PhysAddr, Pool, Regime, VirtAddr};
 
@@ -25,6 +25,7 @@ fn passes(n: usize, start: usize, length: usize) -> bool
 }
 
 // 1: of the memory and the pool's part of it.
+#[tactic(auto, unfolding(crate::specs::Tests::memory_pool_bad))]
 pub fn memory_pool_bad(n: usize, r: Regime) -> bool
     ensures { result ≡ memory_pool_bad n r }
 {
@@ -40,6 +41,7 @@ pub fn memory_pool_bad(n: usize, r: Regime) -> bool
 }
 
 // 2: of the pool's address.
+#[tactic(auto, using(descriptor::proofs::Tests::ltb_same, descriptor::proofs::Tests::or_true), unfolding(crate::specs::Tests::pool_address_bad))]
 pub fn pool_address_bad(r: Regime) -> bool
     ensures { result ≡ pool_address_bad r }
 {
@@ -53,6 +55,7 @@ pub fn pool_address_bad(r: Regime) -> bool
     geometry::unaligned(p, address) | (vmsa::ADDRESS_LIMIT - address < (pool.length as u64))
 }
 
+#[tactic(auto, unfolding(crate::specs::Tests::tsz_bad))]
 fn tsz_bad(t: u8) -> bool
     ensures { result ≡ tsz_bad t }
 {
@@ -60,12 +63,14 @@ fn tsz_bad(t: u8) -> bool
 }
 
 // 3: of the sizes.
+#[tactic(auto, unfolding(crate::specs::Tests::sizes_bad))]
 pub fn sizes_bad(r: Regime) -> bool
     ensures { result ≡ sizes_bad r }
 {
     tsz_bad(r.range0.tsz) | tsz_bad(r.range1.tsz) | (vmsa::OUTPUT_MOST < r.output)
 }
 
+#[tactic(auto, unfolding(crate::specs::Tests::root_bad))]
 fn root_bad(p: u8, root: PhysAddr) -> bool
     requires { Paged p }
     ensures { result ≡ root_bad p root.0 }
@@ -74,6 +79,7 @@ fn root_bad(p: u8, root: PhysAddr) -> bool
 }
 
 // 4: of the roots.
+#[tactic(auto, unfolding(crate::specs::Tests::roots_bad))]
 pub fn roots_bad(r: Regime) -> bool
     ensures { result ≡ roots_bad r }
 {
@@ -84,6 +90,7 @@ pub fn roots_bad(r: Regime) -> bool
 
 // 5: of the attribute bytes, all eight together. The lowest bit of a byte of each number below tells of that byte:
 // one of its bits 1 and 0 is set; its low half is nonzero; its high half is; it is no Device byte; it is a Normal byte.
+#[tactic(auto, using(crate::proofs::Bytes::bad_of, crate::proofs::Bytes::attributes_together), unfolding(crate::proofs::Bytes::bad_of))]
 pub fn attributes_bad(attributes: u64) -> bool
     ensures { result ≡ attributes_bad attributes }
 {
@@ -96,6 +103,7 @@ pub fn attributes_bad(attributes: u64) -> bool
 }
 
 // 13: of the hardware's management of Access flag and dirty state.
+#[tactic(auto, unfolding(crate::specs::Tests::dirty_state_bad))]
 pub fn dirty_state_bad(r: Regime) -> bool
     ensures { result ≡ dirty_state_bad r }
 {
@@ -103,6 +111,7 @@ pub fn dirty_state_bad(r: Regime) -> bool
 }
 
 // 6: of the access's size.
+#[tactic(auto, using(descriptor::proofs::Tests::clash, descriptor::proofs::Tests::or_false, descriptor::proofs::Tests::or_none, crate::proofs::Sizes::size_bits, crate::proofs::Sizes::size_above, crate::proofs::Sizes::size_within), unfolding(crate::specs::Tests::access_size_bad))]
 pub fn access_size_bad(a: Access) -> bool
     ensures { result ≡ access_size_bad a }
 {
@@ -123,25 +132,16 @@ pub fn access_size_bad(a: Access) -> bool
     !(size == 1)
 }
 
-// One less, 0 for 0.
-fn one_less(size: u64) -> u64
-    ensures { result ≡ size - 1 }
-{
-    if size == 0 {
-        return 0;
-    }
-    size - 1
-}
-
 // The address of the last byte, modulo 2^64.
+#[tactic(auto, unfolding(crate::specs::Tests::last_byte))]
 fn last_byte(a: Access) -> u64
     ensures { result ≡ last_byte a }
 {
-    let more = one_less(a.size);
-    std::num::wrapping_add_u64(a.address.0, more)
+    a.address.0.wrapping_add(a.size.saturating_sub(1))
 }
 
 // 7: of the pages of the first and the last byte.
+#[tactic(auto, unfolding(crate::specs::Tests::crossing))]
 pub fn crosses(r: Regime, a: Access) -> bool
     ensures { result ≡ crossing r a }
 {
@@ -154,6 +154,7 @@ pub fn crosses(r: Regime, a: Access) -> bool
 }
 
 // 8: of a store's address. Where the address is not below the pool's, both ends are counted from there.
+#[tactic(auto, using(descriptor::proofs::Tests::ltb_same, descriptor::proofs::Tests::or_true, descriptor::proofs::Tests::or_none), unfolding(crate::specs::Tests::store_address_bad))]
 pub fn store_address_bad(pool: Pool, address: PhysAddr) -> bool
     ensures { result ≡ store_address_bad pool address.0 }
 {
@@ -169,22 +170,16 @@ pub fn store_address_bad(pool: Pool, address: PhysAddr) -> bool
     !(at % 8 == 0) | (length - 8 < at - base)
 }
 
-// How many pages a range has, and how many there are.
+// How many pages a range of size field t has; with 0 for t, how many there are.
 fn range_pages(p: u8, t: u8) -> u64
-    requires { Paged p × (tsz_least ≤ t) × (t ≤ tsz_most) }
-    ensures { result ≡ range_pages p t }
+    requires { Paged p × (t ≤ tsz_most) }
+    ensures { (result ≡ range_pages p t) × (result ≤ 2 ^ 52) }
 {
     descriptor::power(64 - t - p)
 }
 
-fn all_pages(p: u8) -> u64
-    requires { Paged p }
-    ensures { (result ≡ all_pages p) × (result ≤ 2 ^ 52) }
-{
-    descriptor::power(64 - p)
-}
-
-// Whether the pages are all in range 0, and in range 1.
+// Whether the pages, no more than a harvest may have, are all in range 0, and in range 1: the one at the bottom has an end to keep, the other a beginning and an end.
+#[tactic(auto, unfolding(crate::specs::Tests::in_range0))]
 fn in_range0(p: u8, t: u8, first: u64, count: u64) -> bool
     requires { Paged p × (tsz_least ≤ t) × (t ≤ tsz_most) × (first ≤ 2 ^ 52) × (count ≤ harvest_limit) }
     ensures { result ≡ in_range0 p t first count }
@@ -192,15 +187,17 @@ fn in_range0(p: u8, t: u8, first: u64, count: u64) -> bool
     first + count <= range_pages(p, t)
 }
 
+#[tactic(auto, using(crate::proofs::Pages::range_most), unfolding(crate::specs::Tests::in_range1))]
 fn in_range1(p: u8, t: u8, first: u64, count: u64) -> bool
     requires { Paged p × (tsz_least ≤ t) × (t ≤ tsz_most) × (first ≤ 2 ^ 52) × (count ≤ harvest_limit) }
     ensures { result ≡ in_range1 p t first count }
 {
-    let all = all_pages(p);
+    let all = range_pages(p, 0);
     (all - range_pages(p, t) <= first) & (first + count <= all)
 }
 
 // 10: of the pages of a harvest.
+#[tactic(auto, using(crate::proofs::Pages::bad_none, crate::proofs::Pages::bad_many, crate::proofs::Pages::bad_beyond, crate::proofs::Pages::bad_ranges))]
 pub fn page_range_bad(r: Regime, first: u64, count: u64) -> bool
     requires { Sized r }
     ensures { result ≡ page_range_bad r first count }
@@ -213,13 +210,14 @@ pub fn page_range_bad(r: Regime, first: u64, count: u64) -> bool
     if vmsa::HARVEST_LIMIT < count {
         return true;
     }
-    if all_pages(p) < first {
+    if range_pages(p, 0) < first {
         return true;
     }
     !(in_range0(p, r.range0.tsz, first, count) | in_range1(p, r.range1.tsz, first, count))
 }
 
 // 11: of the map of a harvest.
+#[tactic(auto, unfolding(crate::specs::Tests::map_length_bad))]
 pub fn map_length_bad(count: u64, bytes: usize) -> bool
     requires { count ≤ harvest_limit }
     ensures { result ≡ map_length_bad count bytes }

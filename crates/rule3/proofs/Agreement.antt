@@ -1,17 +1,17 @@
 -- A held leaf and the leaf in memory: equal, or AP[2] was cleared since where DBM, HA and HD hold. They are judged alike unless a write would make
 -- the held one dirty.
-use Prim.Native.Nat.{ℕ, ◌+◌, ◌/◌, ◌%◌, ◌^◌, ◌≤◌}
+use Prim.Native.Nat.{ℕ, ◌/◌, ◌%◌, ◌^◌, ◌≤◌}
 use mathlib.Core.Bool.{Bool, true, false, not, ◌&&◌, ◌||◌}
 use mathlib.Core.Path.{◌≡◌, refl, sym, ap, ap₂, ◌∙◌}
 use native.Mathlib.Omega.{arith}
 use lib.Dec.{lit≤, lit<}
 use lib.Pow.{field as field_mod}
-use Rattle.descriptor.specs.Bits.{pick, bit, field, clear_bit}
-use Rattle.descriptor.proofs.Tests.{and_true, or_none, differ}
+use Rattle.descriptor.specs.Bits.{pick}
+use Rattle.descriptor.proofs.Tests.{and_true, differ}
 use Rattle.descriptor.proofs.BitLaws.{clear_above, clear_bit_lem, clear_other}
 use Rattle.vmsa.specs.Granules.{page_bits_of}
 use Rattle.vmsa.specs.Limits.{address_limit}
-use Rattle.geometry.specs.Geometry.{level_of, shift_of, span, cut}
+use Rattle.geometry.specs.Geometry.{shift_of, span, cut}
 use Rattle.geometry.proofs.Geometry.{shift_least, paged}
 use Rattle.vmsa.specs.Answers.{Result, success, fault, refused, cacheable_in, dirtied_in}
 use Rattle.vmsa.specs.Kinds.{is_probe, writes}

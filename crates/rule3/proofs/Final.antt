@@ -1,8 +1,8 @@
 -- Rule 3 of our walk, and of the real functions.
-use Prim.Native.Nat.{ℕ, ◌+◌, ◌-◌, ◌≤◌}
+use Prim.Native.Nat.{ℕ, ◌+◌, ◌≤◌}
 use mathlib.Core.Bool.{Bool, true, false}
-use mathlib.Core.List.{List, [], ◌∷◌, ◌++◌}
-use mathlib.Core.Option.{Option, some}
+use mathlib.Core.List.{List, [], ◌∷◌}
+use Rattle.std.specs.Prelude.{Option, Ok, Err}
 use mathlib.Core.Path.{◌≡◌, refl, sym, ap, ap₂, subst⁻¹, ◌∙◌}
 use native.Mathlib.Omega.{arith}
 use lib.ListN.{length}
@@ -12,10 +12,9 @@ use Rattle.descriptor.proofs.Laws.{length_bytes}
 use Rattle.descriptor.proofs.Numbers.{bytes_bytes}
 use Rattle.vmsa.specs.declared.Regime.{Regime}
 use Rattle.vmsa.specs.declared.Access.{Access}
-use Rattle.checks.specs.declared.Checked.{Checked}
-use Rattle.checks.specs.declared.Checked.TheVariants.{Accepted, Refused}
+use Rattle.checks.specs.Order.{Checked}
 use Rattle.checks.specs.Order.{first_of, memory_rows, setting_rows, regime_rows, access_rows, store_rows, walk_check, session_store_check, and_then}
-use Rattle.walk.specs.Walk.{Outcome, walk_pool, checked, walk}
+use Rattle.walk.specs.Walk.{walk_pool, checked, walk}
 use Rattle.walk.proofs.Ends.{ready}
 use Rattle.harvest.proofs.Laws.{harvest_kept, harvest_bytes}
 use Rattle.tlb.specs.Replies.{Reply, Told, told, reply_of}
@@ -32,7 +31,7 @@ use Rattle.calls.specs.Chains.{Event, event, Functions, Calling, Leaving, Chain,
 use Rattle.calls.specs.Code.{Begun, Made}
 use Rattle.calls.proofs.Lists.{made_leaves}
 use Rattle.rule3.specs.Events.{World, next, run, last_regime, empties, asks_drop, settled, is_drop, dropped}
-use Rattle.rule3.specs.Rule3.{plainly, Remembers, Rule3}
+use Rattle.rule3.specs.Rule3.{plainly, Remembers}
 use Rattle.rule3.specs.Lawful.{unless_refused, Lawful}
 use Rattle.rule3.specs.Code.{Rule3OfModel, world_at, Rule3From, NextFrom, Rule3OfCode, NextOfCode}
 use Rattle.rule3.proofs.Coherence.{Inv, step, begin, claim, rule3}
@@ -42,8 +41,8 @@ use Rattle.rule3.proofs.Memory.{reads, one, marks, leaf_room, accepted_usable}
 -- ---- the plain walk is its checks, and then the walk
 
 then_assoc : (x y z : Checked) → and_then (and_then x y) z ≡ and_then x (and_then y z)
-then_assoc Accepted y z = refl
-then_assoc (Refused k) y z = refl
+then_assoc (Ok _) y z = refl
+then_assoc (Err k) y z = refl
 
 checks_of : (r : Regime) (n : ℕ) (a : Access)
     → walk_check n r a ≡ and_then (first_of (memory_rows n r)) (and_then (first_of (setting_rows r)) (first_of (access_rows r a)))
@@ -54,8 +53,8 @@ checks_of r n a =
 
 plain_by_lem : (r : Regime) (m : List ℕ) (a : Access) (c : Checked) → walk_check (length m) r a ≡ c
     → ◌≡◌ {A = Told Reply} (record { reply = reply_of (checked (walk_pool r a) r.pool m c).result; memory = (checked (walk_pool r a) r.pool m c).bytes }) (unless_refused c m (walked ours r m a))
-plain_by_lem r m a (Refused x) e = refl
-plain_by_lem r m a Accepted e =
+plain_by_lem r m a (Err x) e = refl
+plain_by_lem r m a (Ok _) e =
     let h = ready (length m) r a e in
     let u = accepted_usable r (both (first_of (setting_rows r)) (first_of (access_rows r a)) (both (first_of (memory_rows (length m) r)) (and_then (first_of (setting_rows r)) (first_of (access_rows r a))) (sym (checks_of r (length m) a) ∙ e)).1).0 in
     sym (ap (λ (w : Walked). told w.reply w.memory) (walked_pool_lem r m a h.sized h.root h.fits u))
@@ -68,12 +67,12 @@ plain_walk r m a =
 
 -- ---- an accepted store lies in the memory
 
-store_check_lem : (r : Regime) (n address : ℕ) → first_of (memory_rows n r) ≡ Accepted → first_of (store_rows r.pool address) ≡ Accepted
-    → session_store_check n r address ≡ Accepted
+store_check_lem : (r : Regime) (n address : ℕ) → first_of (memory_rows n r) ≡ Ok tt → first_of (store_rows r.pool address) ≡ Ok tt
+    → session_store_check n r address ≡ Ok tt
 unfolding session_store_check
 store_check_lem r n address e f = first_append (memory_rows n r) (store_rows r.pool address) ∙ ap₂ and_then e f
 
-room : (r : Regime) (n address : ℕ) → first_of (memory_rows n r) ≡ Accepted → first_of (store_rows r.pool address) ≡ Accepted → offset_of r address + 8 ≤ n
+room : (r : Regime) (n address : ℕ) → first_of (memory_rows n r) ≡ Ok tt → first_of (store_rows r.pool address) ≡ Ok tt → offset_of r address + 8 ≤ n
 room r n address e f =
     let h = store_accepted n r address (store_check_lem r n address e f) in
     omega (arith, h.fits, h.least, h.most)

@@ -1,35 +1,30 @@
 -- The lookups of a session over its memory: where a leaf is found, and what an update of one descriptor does to every lookup.
-use Prim.Native.Nat.{ℕ, zero, suc, ◌+◌, ◌-◌, ◌*◌, ◌/◌, ◌%◌, ◌^◌, ◌<◌, ◌≤◌}
-use mathlib.Core.Bool.{Bool, true, false, not, ◌&&◌, ◌||◌}
-use mathlib.Core.List.{List, ◌++◌}
-use mathlib.Core.Path.{◌≡◌, refl, sym, ap, ap₂, subst, ◌∙◌}
+use Prim.Native.Nat.{ℕ, ◌+◌, ◌-◌, ◌*◌, ◌/◌, ◌%◌, ◌^◌, ◌<◌, ◌≤◌}
+use mathlib.Core.Bool.{Bool, true, false, ◌&&◌}
+use mathlib.Core.List.{List}
+use mathlib.Core.Path.{◌≡◌, refl, sym, ap, subst, ◌∙◌}
 use native.Mathlib.Omega.{arith}
-use lib.Dec.{leb, eqb, lit<, lit≤}
+use lib.Dec.{leb, eqb, lit<}
 use lib.ListN.{length, drop}
 use lib.Pow.{field as field_mod}
 use borrow.Author.Tests.{eqb-true, eqb-false, eq-eqb, ne_eqb, leb-true}
-use Rattle.descriptor.specs.Bytes.{Bytes, desc, put}
-use Rattle.descriptor.specs.Bits.{pick, bit, set_bit, clear_bit}
-use Rattle.descriptor.proofs.Tests.{clash, and_true, or_false, differ}
+use Rattle.descriptor.specs.Bytes.{desc, put}
+use Rattle.descriptor.specs.Bits.{pick, set_bit, clear_bit}
+use Rattle.descriptor.proofs.Tests.{and_true}
 use Rattle.descriptor.proofs.Laws.{length_put, desc_put_aligned}
 use Rattle.descriptor.proofs.Numbers.{desc_small, bytes_take, bytes_drop}
 use Rattle.descriptor.proofs.BitLaws.{set_above, clear_above, set_other, clear_other}
 use Rattle.vmsa.specs.Granules.{page_bits_of}
-use Rattle.vmsa.specs.Limits.{address_limit, Sized}
+use Rattle.vmsa.specs.Limits.{address_limit}
 use Rattle.geometry.specs.Geometry.{page_size}
-use Rattle.vmsa.specs.Answers.{Result, code_of, dirtied_in}
+use Rattle.vmsa.specs.Answers.{Result, dirtied_in}
 use Rattle.vmsa.specs.declared.Regime.{Regime}
-use Rattle.vmsa.specs.declared.Access.{Access}
 use Rattle.vmsa.specs.declared.Leaf.{Leaf}
-use Rattle.vmsa.specs.declared.FaultKind.TheVariants.{Translation}
-use Rattle.checks.specs.declared.Checked.TheVariants.{Accepted}
-use Rattle.refusals.specs.Tests.{sizes_bad, roots_bad}
+use Rattle.std.specs.Prelude.{Ok, Some, None}
 use Rattle.checks.specs.Order.{first_of, memory_rows, setting_rows}
 use Rattle.checks.proofs.Accept.{clear, Pooled, pooled, Addressed, addressed}
-use Rattle.lookup.specs.declared.Word.{Word}
-use Rattle.lookup.specs.declared.Word.TheVariants.{Value, Unreachable}
-use Rattle.lookup.specs.Trace.{End, fault, leaf, Trace}
-use Rattle.lookup.specs.Steps.{decoded, fetched, pool_reader, context_of, range_of, locate}
+use Rattle.lookup.specs.Trace.{End}
+use Rattle.lookup.specs.Steps.{fetched, pool_reader, context_of}
 use Rattle.lookup.proofs.Decoding.{Alike, decoded_same}
 use Rattle.lookup.proofs.Reach.{context_paged, locate_read}
 use Rattle.lookup.proofs.Readers.{AlikeWords, unreachable, values, AlikeEnds, faults, leaves, AlikeTraces, locate_alike}
@@ -37,9 +32,9 @@ use Rattle.vmsa.proofs.Tables.{set_bits, clear_bits}
 use Rattle.decision.specs.Decision.{updated}
 use Rattle.walk.specs.Walk.{pool_bytes, traced}
 use Rattle.walk.proofs.Parts.{part_put, length_part}
-use Rattle.walk.proofs.Ends.{Found, found, multiple8}
+use Rattle.walk.proofs.Ends.{found, multiple8}
 use Rattle.rules.proofs.Updates.{updated_small}
-use Rattle.tlb.specs.Walker.{Spot, lost, found as found_at, put_word}
+use Rattle.tlb.specs.Walker.{found as found_at, put_word}
 use Rattle.tlb.specs.Ours.{usable, offset_of, spot_at, spot_of, located, accessed_in, stamped, ours}
 use Rattle.tlb.proofs.Walking.{usable_sized, usable_root, put_is}
 use Rattle.tlb.proofs.Found.{Where, where_found, in_the_pool}
@@ -64,13 +59,13 @@ one r m p q e f =
 
 -- ---- what acceptance gives
 
-pub accepted_pool : (r : Regime) (n : ℕ) → first_of (memory_rows n r) ≡ Accepted → Pooled n r
+pub accepted_pool : (r : Regime) (n : ℕ) → first_of (memory_rows n r) ≡ Ok tt → Pooled n r
 accepted_pool r n e = pooled n r (clear (memory_rows n r) e).0
 
-pub accepted_usable : (r : Regime) → first_of (setting_rows r) ≡ Accepted → usable r ≡ true
+pub accepted_usable : (r : Regime) → first_of (setting_rows r) ≡ Ok tt → usable r ≡ true
 accepted_usable r e = let c = clear (setting_rows r) e in rw (c.1.0, c.1.1.0)
 
-pub accepted_address : (r : Regime) → first_of (setting_rows r) ≡ Accepted → Addressed r
+pub accepted_address : (r : Regime) → first_of (setting_rows r) ≡ Ok tt → Addressed r
 accepted_address r e = addressed r (clear (setting_rows r) e).0
 
 pub leaf_room : (r : Regime) (m : List ℕ) → Admitted ours r m → (p : ℕ) {at : ℕ} {u : Leaf} {n : ℕ} → located r m p ≡ found_at at u n → at + 8 ≤ length m
@@ -128,7 +123,7 @@ module _ (ee : Bool) (pool : List ℕ) (base i w : ℕ) (b8 : base % 8 ≡ 0) (i
       by true e = rw (← eqb-true i j e) unseen
       by false e = alike_self (desc ee pool j)
 
-  opened : (p : List ℕ) → length p ≡ length pool → (a : ℕ) → fetched ee p base a ≡ pick (leb base a && leb (a + 8) (base + length pool)) (Value (desc ee p (a - base))) Unreachable
+  opened : (p : List ℕ) → length p ≡ length pool → (a : ℕ) → fetched ee p base a ≡ pick (leb base a && leb (a + 8) (base + length pool)) (Some (desc ee p (a - base))) None
   unfolding fetched
   opened p e a = rw e
 
@@ -137,7 +132,7 @@ module _ (ee : Bool) (pool : List ℕ) (base i w : ℕ) (b8 : base % 8 ≡ 0) (i
   alike_words a a8 = rw (opened pool refl a, opened (put ee pool i w) (length_put ee pool i w fits) a) (by (leb base a && leb (a + 8) (base + length pool)) refl)
     where
       by : (b : Bool) → (leb base a && leb (a + 8) (base + length pool)) ≡ b
-          → AlikeWords Alike (pick b (Value (desc ee pool (a - base))) Unreachable) (pick b (Value (desc ee after (a - base))) Unreachable)
+          → AlikeWords Alike (pick b (Some (desc ee pool (a - base))) None) (pick b (Some (desc ee after (a - base))) None)
       by false e = unreachable
       by true e =
           let t = and_true (leb base a) (leb (a + 8) (base + length pool)) e in

@@ -1,6 +1,5 @@
 -- The claim of rule 3 (RULES 11 and 13): of every list of calls of the model, and of every list of calls of the functions of a session, by their own contracts.
-use Rattle.std.specs.Prelude.{ℕ, List, ◌≡◌, length}
-use Rattle.std.proofs.Math.Option.{Option, some}
+use Rattle.std.specs.Prelude.{ℕ, List, ◌≡◌, length, Some}
 use Rattle.descriptor.specs.Bytes.{Bytes}
 use Rattle.vmsa.specs.declared.Regime.{Regime}
 use Rattle.vmsa.specs.declared.Access.{Access}
@@ -28,7 +27,7 @@ Rule3From F s₀ = (m₀ : List ℕ) → Bytes m₀ → (s : SessionStruct) (m :
 
 abbrev pub NextFrom : Functions SessionStruct → SessionStruct → Type 0
 NextFrom F s₀ = (m₀ : List ℕ) → Bytes m₀ → (s : SessionStruct) (m : List ℕ) (past : List Event) → Chain F s₀ m₀ s m past
-    → (r : Regime) → last_regime past ≡ some r → (a : Access) (n : List ℕ) → length n ≡ length m → (x : Handed SessionStruct Reply) → F s n (access a) x
+    → (r : Regime) → last_regime past ≡ Some r → (a : Access) (n : List ℕ) → length n ≡ length m → (x : Handed SessionStruct Reply) → F s n (access a) x
     → Remembers ours (world_at s m past) r a n x.reply x.memory
 
 -- of the functions by value, from Session::empty()

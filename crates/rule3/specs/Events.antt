@@ -1,6 +1,5 @@
 -- A list of a session's calls, and the words of rule 3, from the calls and their replies alone (RULES 11).
-use Rattle.std.specs.Prelude.{ℕ, ◌≤◌, Bool, true, false, ◌&&◌, List, [], ◌∷◌, leb, eqb}
-use Rattle.std.proofs.Math.Option.{Option, none, some}
+use Rattle.std.specs.Prelude.{ℕ, Bool, true, false, ◌&&◌, List, [], ◌∷◌, leb, eqb, Option, None, Some}
 use Rattle.descriptor.specs.Bits.{pick}
 use Rattle.vmsa.specs.Answers.{cacheable_in}
 use Rattle.vmsa.specs.declared.Regime.{Regime}
@@ -35,7 +34,7 @@ run W w (c ∷ cs) = run W (next W w c) cs
 
 -- the regime last accepted, since a fresh session
 abbrev pub last_regime : List Event → Option Regime
-last_regime past = regime_from none past
+last_regime past = regime_from None past
 
 -- an emptying is an accepted set regime, a drop all, or an accepted harvest
 abbrev pub empties : Call → Reply → Bool
@@ -84,26 +83,26 @@ abbrev pub any_count : ℕ → Bool
 any_count n = true
 
 abbrev pub moment_in : Walker → Option Regime → Access → List ℕ → Option Moment
-moment_in W none a m = none
-moment_in W (some R) a m = some (record { regime = R; page = W.page R a; left = m })
+moment_in W None a m = None
+moment_in W (Some R) a m = Some (record { regime = R; page = W.page R a; left = m })
 
 -- an access is rememberable when its answer says "may be remembered"; one whose count passes the test
 abbrev pub moment_of : Walker → (ℕ → Bool) → Option Regime → Call → Reply → List ℕ → Option Moment
-moment_of W ok o (set_regime R) reply m = none
-moment_of W ok o (access a) done m = none
-moment_of W ok o (access a) (refused n) m = none
-moment_of W ok o (access a) (answered x n) m = pick (cacheable_in x && ok n) (moment_in W o a m) none
-moment_of W ok o (access a) (harvested map) m = none
-moment_of W ok o (store address value) reply m = none
-moment_of W ok o drop_all reply m = none
-moment_of W ok o (harvest first count map) reply m = none
+moment_of W ok o (set_regime R) reply m = None
+moment_of W ok o (access a) done m = None
+moment_of W ok o (access a) (refused n) m = None
+moment_of W ok o (access a) (answered x n) m = pick (cacheable_in x && ok n) (moment_in W o a m) None
+moment_of W ok o (access a) (harvested map) m = None
+moment_of W ok o (store address value) reply m = None
+moment_of W ok o drop_all reply m = None
+moment_of W ok o (harvest first count map) reply m = None
 
 abbrev pub or_earlier : ℕ → Option Moment → Option Moment → Option Moment
-or_earlier i none old = old
-or_earlier i (some t) old = pick (eqb (entry_of t.page) i) (some t) old
+or_earlier i None old = old
+or_earlier i (Some t) old = pick (eqb (entry_of t.page) i) (Some t) old
 
 -- the last such access at entry i since the last emptying
 abbrev pub latest : Walker → (ℕ → Bool) → List Event → ℕ → Option Moment
-latest W ok [] i = none
+latest W ok [] i = None
 latest W ok (e ∷ before) i =
-    pick (empties e.made e.reply) none (or_earlier i (moment_of W ok (last_regime before) e.made e.reply e.left) (latest W ok before i))
+    pick (empties e.made e.reply) None (or_earlier i (moment_of W ok (last_regime before) e.made e.reply e.left) (latest W ok before i))

@@ -1,5 +1,5 @@
 -- What rule 3 (RULES 11) asks of a walker.
-use Rattle.std.specs.Prelude.{ℕ, ◌+◌, ◌≤◌, Bool, true, false, List, ◌≡◌, eqb, length}
+use Rattle.std.specs.Prelude.{ℕ, ◌+◌, ◌≤◌, true, false, List, ◌≡◌, eqb, length, Ok, Err}
 use Rattle.descriptor.specs.Bytes.{Bytes}
 use Rattle.descriptor.specs.Bits.{pick}
 use Rattle.vmsa.specs.Answers.{Result, number_of, cacheable_in, dirtied_in}
@@ -8,8 +8,7 @@ use Rattle.vmsa.specs.declared.Regime.{Regime}
 use Rattle.vmsa.specs.declared.Access.{Access}
 use Rattle.vmsa.specs.declared.Leaf.{Leaf}
 use Rattle.vmsa.specs.declared.Refusal.{Refusal}
-use Rattle.checks.specs.declared.Checked.{Checked}
-use Rattle.checks.specs.declared.Checked.TheVariants.{Accepted, Refused}
+use Rattle.checks.specs.Order.{Checked}
 use Rattle.tlb.specs.Replies.{Reply, refused, Told, told, updates}
 use Rattle.checks.specs.Order.{and_then}
 use Rattle.tlb.specs.Walker.{Walker, Spot, lost, found, Walked, put_word, walked}
@@ -18,8 +17,8 @@ use Rattle.rule3.specs.Rule3.{plainly}
 
 -- what a walk tells, unless its checks refuse it
 abbrev pub unless_refused : Checked → List ℕ → Walked → Told Reply
-unless_refused Accepted m w = told w.reply w.memory
-unless_refused (Refused x) m w = told (refused (number_of x)) m
+unless_refused (Ok _) m w = told w.reply w.memory
+unless_refused (Err x) m w = told (refused (number_of x)) m
 
 -- how a lookup ends once the descriptor at an offset has another value
 abbrev pub restamped : ℕ → ℕ → Spot → Spot
@@ -31,8 +30,8 @@ module _ (W : Walker) where
 
   -- a regime that was accepted, over a memory that row 1 lets through
   pub record Admitted (R : Regime) (m : List ℕ) : Type 0 where
-    pub pool : memory_check R (length m) ≡ Accepted
-    pub regime : setting_check R ≡ Accepted
+    pub pool : memory_check R (length m) ≡ Ok tt
+    pub regime : setting_check R ≡ Ok tt
     pub bytes : Bytes m
 
   pub record Lawful : Type 1 where
@@ -40,7 +39,7 @@ module _ (W : Walker) where
     pub plain_walk : (R : Regime) (m : List ℕ) (a : Access)
         → plainly W R m a ≡ unless_refused (and_then (memory_check R (length m)) (and_then (setting_check R) (access_check R a))) m (walked W R m a)
     -- an accepted store's 8 bytes are in the memory, and so are those of a leaf that is found
-    pub room : (R : Regime) (n address : ℕ) → memory_check R n ≡ Accepted → store_check R address ≡ Accepted → offset R address + 8 ≤ n
+    pub room : (R : Regime) (n address : ℕ) → memory_check R n ≡ Ok tt → store_check R address ≡ Ok tt → offset R address + 8 ≤ n
     pub leaf_room : (R : Regime) (m : List ℕ) → Admitted R m → (p : ℕ) {at : ℕ} {u : Leaf} {n : ℕ} → locate R m p ≡ found at u n → at + 8 ≤ length m
     pub word_length : (R : Regime) (v : ℕ) → length (word R v) ≡ 8
     pub word_bytes : (R : Regime) (v : ℕ) → Bytes (word R v)
@@ -57,7 +56,7 @@ module _ (W : Walker) where
     -- a read, fetch or probe makes no dirty update
     pub quiet : (R : Regime) (u : Leaf) (a : Access) → writes a.kind ≡ false → dirtied_in (judge R u a) ≡ false
     -- a harvest that is refused leaves the memory; any leaves bytes
-    pub harvest_kept : (R : Regime) (first count : ℕ) (m map : List ℕ) (x : Refusal) → (harvest R first count m map).reply ≡ Refused x → (harvest R first count m map).memory ≡ m
+    pub harvest_kept : (R : Regime) (first count : ℕ) (m map : List ℕ) (x : Refusal) → (harvest R first count m map).reply ≡ Err x → (harvest R first count m map).memory ≡ m
     pub harvest_bytes : (R : Regime) (first count : ℕ) (m map : List ℕ) → Bytes m → Bytes (harvest R first count m map).memory
     -- Agree R h u: a held leaf h still speaks for the leaf u in memory
     pub Agree : Regime → Leaf → Leaf → Type 0

@@ -1,12 +1,11 @@
 -- Rule 3 (RULES 11) as one claim about a list of calls, over any walker W (specs/Code.antt states it of ours): from the calls and their replies alone, never from what is stored.
-use Rattle.std.specs.Prelude.{ℕ, ◌+◌, ◌≤◌, ◌<◌, Bool, true, false, List, [], ◌∷◌, ◌++◌, ◌≢◌, ◌≡◌, length, get_or, take, drop}
-use Rattle.std.proofs.Math.Option.{Option, none, some}
+use Rattle.std.specs.Prelude.{ℕ, ◌+◌, ◌≤◌, Bool, true, false, List, [], ◌∷◌, ◌++◌, ◌≢◌, ◌≡◌, length, take, drop, Option, None, Some}
 use Rattle.vmsa.specs.Kinds.{writes}
 use Rattle.vmsa.specs.declared.Regime.{Regime}
 use Rattle.vmsa.specs.declared.Access.{Access}
 use Rattle.tlb.specs.Replies.{Reply, done, refused, answered, harvested, Told, told, reply_of, harvest_reply, uncounted, dirties}
 use Rattle.tlb.specs.Walker.{Walker, no_regime, entry_of}
-use Rattle.session.specs.Model.{Stepped, Call, set_regime, access, store, drop_all, harvest, access_call}
+use Rattle.session.specs.Model.{Call, set_regime, access, store, drop_all, harvest, access_call}
 use Rattle.calls.specs.Chains.{Event}
 use Rattle.rule3.specs.Events.{World, last_regime, settled, Moment, counted, any_count, latest}
 
@@ -29,8 +28,8 @@ pub record Stored (W : Walker) (R : Regime) (address value : ℕ) (m left : List
   pub bytes : left ≡ take (W.offset R address) m ++ W.word R value ++ drop (W.offset R address + 8) m
 
 abbrev pub StoredIn : Walker → Option Regime → ℕ → ℕ → List ℕ → List ℕ → Type 0
-StoredIn W none address value m left = ⊥
-StoredIn W (some R) address value m left = Stored W R address value m left
+StoredIn W None address value m left = ⊥
+StoredIn W (Some R) address value m left = Stored W R address value m left
 
 -- the plain walk made at that moment, the count of reads apart, and the same bytes
 pub record Alike (W : Walker) (R : Regime) (m : List ℕ) (a : Access) (reply : Reply) (left : List ℕ) : Type 0 where
@@ -39,8 +38,8 @@ pub record Alike (W : Walker) (R : Regime) (m : List ℕ) (a : Access) (reply : 
 
 -- an access before any accepted regime is refused with 9; after one, with an emptying after every accepted store, it is the plain walk
 abbrev pub AccessIn : Walker → Option Regime → Bool → Access → Reply → List ℕ → List ℕ → Type 0
-AccessIn W none isSettled a reply m left = reply ≡ refused no_regime
-AccessIn W (some R) isSettled a reply m left = isSettled ≡ true → Alike W R m a reply left
+AccessIn W None isSettled a reply m left = reply ≡ refused no_regime
+AccessIn W (Some R) isSettled a reply m left = isSettled ≡ true → Alike W R m a reply left
 
 -- a harvest before any accepted regime is refused with 9; after one, it gives the reply, the map and the bytes that the plain harvest made at that moment gives
 pub record AsPlain (W : Walker) (R : Regime) (first count : ℕ) (map m : List ℕ) (reply : Reply) (left : List ℕ) : Type 0 where
@@ -48,8 +47,8 @@ pub record AsPlain (W : Walker) (R : Regime) (first count : ℕ) (map m : List �
   pub bytes : left ≡ (W.harvest R first count m map).memory
 
 abbrev pub HarvestIn : Walker → Option Regime → ℕ → ℕ → List ℕ → List ℕ → Reply → List ℕ → Type 0
-HarvestIn W none first count map m reply left = reply ≡ refused no_regime
-HarvestIn W (some R) first count map m reply left = AsPlain W R first count map m reply left
+HarvestIn W None first count map m reply left = reply ≡ refused no_regime
+HarvestIn W (Some R) first count map m reply left = AsPlain W R first count map m reply left
 
 -- what each call keeps to, by the calls before it: set regime, drop all and every refused call leave each byte as they found it
 abbrev pub KeepsTo : Walker → List Event → Call → Reply → List ℕ → List ℕ → Type 0
@@ -80,16 +79,16 @@ pub record Recalled (W : Walker) (t : Moment) (R : Regime) (m : List ℕ) (a : A
 
 -- by the last rememberable access at the page's entry since the last emptying: of that page, of another, or none
 pub record Remembers (W : Walker) (w : World) (R : Regime) (a : Access) (m : List ℕ) (reply : Reply) (left : List ℕ) : Type 0 where
-  pub held : (t : Moment) → latest W any_count w.past (entry_of (W.page R a)) ≡ some t → t.page ≡ W.page R a
-      → (u : Moment) × (latest W counted w.past (entry_of (W.page R a)) ≡ some u) × Recalled W u R m a reply left
-  pub other : (t : Moment) → latest W any_count w.past (entry_of (W.page R a)) ≡ some t → t.page ≢ W.page R a → Plainly W R m a reply left
-  pub unheld : latest W any_count w.past (entry_of (W.page R a)) ≡ none → Plainly W R m a reply left
+  pub held : (t : Moment) → latest W any_count w.past (entry_of (W.page R a)) ≡ Some t → t.page ≡ W.page R a
+      → (u : Moment) × (latest W counted w.past (entry_of (W.page R a)) ≡ Some u) × Recalled W u R m a reply left
+  pub other : (t : Moment) → latest W any_count w.past (entry_of (W.page R a)) ≡ Some t → t.page ≢ W.page R a → Plainly W R m a reply left
+  pub unheld : latest W any_count w.past (entry_of (W.page R a)) ≡ None → Plainly W R m a reply left
 
 pub record Rule3 (W : Walker) (w : World) : Type 0 where
   -- each call of the list, by those before it
   pub calls : Every W w.past
   -- after the list, with drops or without: any access under the regime last accepted, over any bytes of the same length
-  pub remembers : (R : Regime) → last_regime w.past ≡ some R → (a : Access) (m : List ℕ) → length m ≡ length w.memory
+  pub remembers : (R : Regime) → last_regime w.past ≡ Some R → (a : Access) (m : List ℕ) → length m ≡ length w.memory
       → Remembers W w R a m (access_call W w.session m a).reply (access_call W w.session m a).memory
   -- a read, fetch or probe never makes a dirty update
   pub quiet : (R : Regime) (m : List ℕ) (a : Access) → writes a.kind ≡ false → dirties (plainly W R m a).reply ≡ false

@@ -20,12 +20,10 @@ use Rattle.vmsa.specs.declared.Pool.{Pool}
 use Rattle.vmsa.specs.declared.Access.{Access}
 use Rattle.vmsa.specs.declared.Leaf.{Leaf}
 use Rattle.refusals.specs.Tests.{sizes_bad, roots_bad, dirty_state_bad, memory_pool_bad, pool_address_bad, crossing}
-use Rattle.checks.specs.declared.Checked.{Checked}
-use Rattle.checks.specs.declared.Checked.TheVariants.{Accepted, Refused}
+use Rattle.checks.specs.Order.{Checked}
+use Rattle.std.specs.Prelude.{Ok, Err, Option, Some, None}
 use Rattle.checks.specs.Order.{walk_check}
 use Rattle.checks.proofs.Accept.{walk_accepted}
-use Rattle.lookup.specs.declared.Word.{Word}
-use Rattle.lookup.specs.declared.Word.TheVariants.{Value, Unreachable}
 use Rattle.lookup.specs.Trace.{End, fault, leaf, Trace}
 use Rattle.lookup.specs.Steps.{decoded, fetched, pool_reader, range_of, context_of, lookup, locate}
 use Rattle.lookup.proofs.Readers.{AlikeWords, unreachable, values, AlikeEnds, faults, leaves, AlikeTraces, locate_alike}
@@ -125,7 +123,7 @@ unfolding fetched
 words_other ee n l base long b8 a a8 = rw (swapped_length n l) (by (leb base a && leb (a + 8) (base + length l)) refl)
   where
     by : (b : Bool) → (leb base a && leb (a + 8) (base + length l)) ≡ b
-        → AlikeWords ◌≡◌ (pick b (Value (desc (not ee) (swapped n l) (a - base))) Unreachable) (pick b (Value (desc ee l (a - base))) Unreachable)
+        → AlikeWords ◌≡◌ (pick b (Some (desc (not ee) (swapped n l) (a - base))) None) (pick b (Some (desc ee l (a - base))) None)
     by true e =
         let t = and_true (leb base a) (leb (a + 8) (base + length l)) e in
         let g : base ≤ a = leb-true base a t.0 in
@@ -141,7 +139,7 @@ same_trace : {t u : Trace} → AlikeTraces ◌≡◌ t u → t ≡ u
 same_trace h i = record { visited = h.visited i; end = same_end h.ends i }
 
 -- steps 1 to 5 ask the order of the reader alone
-locate_other : (r : Regime) (read : ℕ → Word) (a : ℕ) → locate (other_order r) read a ≡ locate r read a
+locate_other : (r : Regime) (read : ℕ → Option ℕ) (a : ℕ) → locate (other_order r) read a ≡ locate r read a
 unfolding lookup locate range_of context_of
 locate_other r read a = refl
 
@@ -197,7 +195,7 @@ module _ (r : Regime) (a : Access) (m : List ℕ) where
       let n = r.pool.length in
       same_length (take s m) (pool_bytes r.pool m) (swapped (n / 8) (pool_bytes r.pool m)) (drop (s + n) m) (swapped_length (n / 8) (pool_bytes r.pool m)) ∙ ap length (with_own m s n)
 
-  module _ (c : walk_check (length m) r a ≡ Accepted) where
+  module _ (c : walk_check (length m) r a ≡ Ok tt) where
     abbrev start : ℕ
     start = r.pool.start
 
@@ -207,7 +205,7 @@ module _ (r : Regime) (a : Access) (m : List ℕ) where
     abbrev pool : List ℕ
     pool = pool_bytes r.pool m
 
-    taken_other : checked (walk_pool (other_order r) a) r.pool (swapped_pool r.pool m) Accepted ≡ swapped_outcome r.pool (checked (walk_pool r a) r.pool m Accepted)
+    taken_other : checked (walk_pool (other_order r) a) r.pool (swapped_pool r.pool m) (Ok tt) ≡ swapped_outcome r.pool (checked (walk_pool r a) r.pool m (Ok tt))
     taken_other =
         let g = (walk_accepted (length m) r a c).0 in
         let h = ready (length m) r a c in
@@ -233,5 +231,5 @@ module _ (r : Regime) (a : Access) (m : List ℕ) where
     where
       by : (x : Checked) → walk_check (length m) r a ≡ x
           → checked (walk_pool (other_order r) a) r.pool (swapped_pool r.pool m) x ≡ swapped_outcome r.pool (checked (walk_pool r a) r.pool m x)
-      by (Refused x) e = refl
-      by Accepted e = taken_other e
+      by (Err x) e = refl
+      by (Ok _) e = taken_other e

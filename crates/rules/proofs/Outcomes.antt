@@ -2,7 +2,7 @@
 use Prim.Native.Nat.{ℕ, ◌-◌}
 use mathlib.Core.Bool.{Bool, true, false}
 use mathlib.Core.List.{List, [], ◌∷◌}
-use mathlib.Core.Option.{Option, none, some}
+use Rattle.std.specs.Prelude.{Option, None, Some}
 use mathlib.Core.Path.{◌≡◌, refl, subst, subst⁻¹}
 use lib.ListN.{length}
 use Rattle.vmsa.specs.Fields.{af}
@@ -40,14 +40,14 @@ Failed r a pool k l =
     walk_pool r a pool ≡ fault_outcome k l (end_cacheable (traced r pool a.address.0).end) (length (traced r pool a.address.0).visited) pool
 
 abbrev pub ByFault : Regime → Access → List ℕ → Option Fault → Type 0
-ByFault r a pool none = Passed r a pool
-ByFault r a pool (some f) = Failed r a pool f.0 f.1
+ByFault r a pool None = Passed r a pool
+ByFault r a pool (Some f) = Failed r a pool f.0 f.1
 
 -- ---- steps 6 to 8
 
 abbrev Decided : Regime → Access → Leaf → ℕ → Decision → Option Fault → Type 0
-Decided r a l reads d none = d ≡ passing r a l reads
-Decided r a l reads d (some f) = (d ≡ failing l reads f.0) × (f.1 ≡ level_of l.left)
+Decided r a l reads d None = d ≡ passing r a l reads
+Decided r a l reads d (Some f) = (d ≡ failing l reads f.0) × (f.1 ≡ level_of l.left)
 
 decision_by : (r : Regime) (a : Access) (l : Leaf) (reads : ℕ) → Decided r a l reads (decision r a l reads) (first_fault (leaf_steps r a l))
 unfolding leaf_steps decision
@@ -68,18 +68,18 @@ decision_at r a l reads o q = subst (Decided r a l reads (decision r a l reads))
 
 module _ (r : Regime) (a : Access) (pool : List ℕ) where
   -- a leaf none of whose steps fails
-  pub leaf_passes : (address : ℕ) (l : Leaf) → (traced r pool a.address.0).end ≡ leaf address l → first_fault (leaf_steps r a l) ≡ none
+  pub leaf_passes : (address : ℕ) (l : Leaf) → (traced r pool a.address.0).end ≡ leaf address l → first_fault (leaf_steps r a l) ≡ None
       → walk_pool r a pool ≡ applied r.ee pool (address - r.pool.address.0) (passing r a l (length (traced r pool a.address.0).visited))
   unfolding walk_pool
   leaf_passes address l e q =
-      let d = decision_at r a l (length (traced r pool a.address.0).visited) none q in
+      let d = decision_at r a l (length (traced r pool a.address.0).visited) None q in
       rw (e, d)
 
   leaf_outcome : (address : ℕ) (l : Leaf) → (traced r pool a.address.0).end ≡ leaf address l → (o : Option Fault) → first_fault (leaf_steps r a l) ≡ o → ByFault r a pool o
   unfolding walk_pool failing
-  leaf_outcome address l e none q = record { address = address; found = l; ends = e }
-  leaf_outcome address l e (some f) q =
-      let d = decision_at r a l (length (traced r pool a.address.0).visited) (some f) q in
+  leaf_outcome address l e None q = record { address = address; found = l; ends = e }
+  leaf_outcome address l e (Some f) q =
+      let d = decision_at r a l (length (traced r pool a.address.0).visited) (Some f) q in
       rw (e, d.0, d.1)
 
   pub pool_outcome : ByFault r a pool (first_fault (walk_steps r a pool))

@@ -3,7 +3,7 @@ use Prim.Native.Nat.{ℕ, ◌+◌, ◌<◌, ◌≤◌}
 use mathlib.Core.Bool.{◌||◌}
 use mathlib.Core.List.{List}
 use mathlib.Core.Logic.{◌⊎◌, inl, inr}
-use mathlib.Core.Option.{Option, none, some}
+use Rattle.std.specs.Prelude.{Option, None, Some, Ok, Err}
 use mathlib.Core.Path.{◌≡◌, refl, ap, ◌∙◌}
 use lib.ListN.{length, get_or}
 use Rattle.descriptor.specs.Bytes.{Bytes, put}
@@ -12,8 +12,7 @@ use Rattle.vmsa.specs.Answers.{refused, number_of}
 use Rattle.vmsa.specs.declared.Regime.{Regime}
 use Rattle.vmsa.specs.declared.Access.{Access}
 use Rattle.vmsa.specs.declared.Refusal.{Refusal}
-use Rattle.checks.specs.declared.Checked.{Checked}
-use Rattle.checks.specs.declared.Checked.TheVariants.{Accepted, Refused}
+use Rattle.checks.specs.Order.{Checked}
 use Rattle.checks.specs.Order.{walk_rows, walk_check}
 use Rattle.checks.proofs.Accept.{walk_accepted}
 use Rattle.decision.specs.Decision.{flag_due, dirty_due}
@@ -47,8 +46,8 @@ module _ (r : Regime) (a : Access) (m : List ℕ) where
   same_length = by (walk_check (length m) r a) refl
     where
       by : (c : Checked) → walk_check (length m) r a ≡ c → length (walk r a m).bytes ≡ length m
-      by (Refused x) e = rw (walk_refused r a m x e)
-      by Accepted e =
+      by (Err x) e = rw (walk_refused r a m x e)
+      by (Ok _) e =
           rw (walk_taken r a m e)
           (length_with m (walk_pool r a (pool_bytes r.pool m)).bytes r.pool.start r.pool.length (ready (length m) r a e).fits (pool_length r a m e))
 
@@ -56,29 +55,29 @@ module _ (r : Regime) (a : Access) (m : List ℕ) where
   same_outside i h = by (walk_check (length m) r a) refl h
     where
       by : (c : Checked) → walk_check (length m) r a ≡ c → (i < r.pool.start) ⊎ (r.pool.start + r.pool.length ≤ i) → get_or (walk r a m).bytes i 0 ≡ get_or m i 0
-      by (Refused x) e h = rw (walk_refused r a m x e)
-      by Accepted e (inl h) =
+      by (Err x) e h = rw (walk_refused r a m x e)
+      by (Ok _) e (inl h) =
           rw (walk_taken r a m e)
           (get_d_with_before m (walk_pool r a (pool_bytes r.pool m)).bytes r.pool.start r.pool.length (ready (length m) r a e).fits (pool_length r a m e) i h)
-      by Accepted e (inr h) =
+      by (Ok _) e (inr h) =
           rw (walk_taken r a m e)
           (get_d_with_after m (walk_pool r a (pool_bytes r.pool m)).bytes r.pool.start r.pool.length (ready (length m) r a e).fits (pool_length r a m e) i h)
 
   same_bytes : Bytes m → Bytes (walk r a m).bytes
   same_bytes h = by (walk_check (length m) r a) refl
     where
-      taken : walk_check (length m) r a ≡ Accepted → (o : Option Fault) → first_fault (steps_of r a m) ≡ o → Bytes (walk r a m).bytes
-      taken e none q =
+      taken : walk_check (length m) r a ≡ Ok tt → (o : Option Fault) → first_fault (steps_of r a m) ≡ o → Bytes (walk r a m).bytes
+      taken e None q =
           let l = passed_leaf r a m q in
           let v = updated_leaf r a (leaf_in l) in
           rw (passed_bytes r a m e q l) (pick_both Bytes (flag_due r a (leaf_in l) || dirty_due r a (leaf_in l)) (put r.ee m (offset l) v) m (bytes_put r.ee m (offset l) v h) h)
-      taken e (some f) q = rw (failed_bytes r a m e f q) h
+      taken e (Some f) q = rw (failed_bytes r a m e f q) h
 
       by : (c : Checked) → walk_check (length m) r a ≡ c → Bytes (walk r a m).bytes
-      by (Refused x) e = rw (walk_refused r a m x e) h
-      by Accepted e = taken e (first_fault (steps_of r a m)) refl
+      by (Err x) e = rw (walk_refused r a m x e) h
+      by (Ok _) e = taken e (first_fault (steps_of r a m)) refl
 
-  pool_after : walk_check (length m) r a ≡ Accepted → pool_bytes r.pool (walk r a m).bytes ≡ (walk_pool r a (pool_bytes r.pool m)).bytes
+  pool_after : walk_check (length m) r a ≡ Ok tt → pool_bytes r.pool (walk r a m).bytes ≡ (walk_pool r a (pool_bytes r.pool m)).bytes
   pool_after e =
       rw (walk_taken r a m e)
       (part_with m (walk_pool r a (pool_bytes r.pool m)).bytes r.pool.start r.pool.length (ready (length m) r a e).fits (pool_length r a m e))
@@ -89,11 +88,11 @@ same_answer r a m n l p = by (walk_check (length n) r a) refl
   where
     by : (c : Checked) → walk_check (length n) r a ≡ c
         → ((walk r a m).result ≡ (walk r a n).result) × (pool_bytes r.pool (walk r a m).bytes ≡ pool_bytes r.pool (walk r a n).bytes)
-    by (Refused x) e =
-        let f : walk_check (length m) r a ≡ Refused x = rw l e in
+    by (Err x) e =
+        let f : walk_check (length m) r a ≡ Err x = rw l e in
         rw (walk_refused r a m x f, walk_refused r a n x e) (refl, p)
-    by Accepted e =
-        let f : walk_check (length m) r a ≡ Accepted = rw l e in
+    by (Ok _) e =
+        let f : walk_check (length m) r a ≡ Ok tt = rw l e in
         (rw (walk_taken r a m f, walk_taken r a n e, p), rw (pool_after r a m f, pool_after r a n e, p))
 
 pub rule1 : Rule1

@@ -3,7 +3,7 @@ use Prim.Native.Nat.{ℕ, ◌+◌, ◌^◌, ◌<◌, ◌≤◌}
 use mathlib.Core.Bool.{Bool, true, false, not, ◌&&◌, ◌||◌, or_comm}
 use mathlib.Core.List.{List}
 use mathlib.Core.Logic.{◌⊎◌, inl, inr, ◌↔◌}
-use mathlib.Core.Option.{Option, none, some}
+use Rattle.std.specs.Prelude.{Option, None, Some, Ok}
 use mathlib.Core.Path.{◌≡◌, refl, sym, ap, ◌∙◌}
 use native.Mathlib.Omega.{arith}
 use lib.ListN.{length, get_or}
@@ -22,7 +22,6 @@ use Rattle.vmsa.specs.declared.Access.{Access}
 use Rattle.vmsa.specs.declared.Success.{Success}
 use Rattle.vmsa.specs.declared.FaultKind.{FaultKind}
 use Rattle.vmsa.specs.declared.FaultKind.TheVariants.{Permission, Alignment}
-use Rattle.checks.specs.declared.Checked.TheVariants.{Accepted}
 use Rattle.checks.specs.Order.{walk_check}
 use Rattle.lookup.specs.Trace.{End, fault, leaf}
 use Rattle.lookup.specs.Steps.{context_of, pool_reader}
@@ -51,10 +50,10 @@ module _ (r : Regime) (a : Access) (m : List ℕ) where
   all_or_first = by (first_fault (steps_of r a m)) refl
     where
       by : (o : Option Fault) → first_fault (steps_of r a m) ≡ o → AllPass (steps_of r a m) ⊎ ((k : FaultKind) × (l : ℕ) × FirstFails (steps_of r a m) k l)
-      by none q = inl (none_passes (steps_of r a m) q)
-      by (some f) q = inr (f.0, f.1, some_fails (steps_of r a m) f.0 f.1 q)
+      by None q = inl (none_passes (steps_of r a m) q)
+      by (Some f) q = inr (f.0, f.1, some_fails (steps_of r a m) f.0 f.1 q)
 
-  success_all : walk_check (length m) r a ≡ Accepted → ((s : Success) × ((walk r a m).result ≡ success s)) ↔ AllPass (steps_of r a m)
+  success_all : walk_check (length m) r a ≡ Ok tt → ((s : Success) × ((walk r a m).result ≡ success s)) ↔ AllPass (steps_of r a m)
   success_all c = (
     λ w. none_passes (steps_of r a m) (success_none r a m w.0 w.1),
     λ p. let q = passes_none p in
@@ -62,13 +61,13 @@ module _ (r : Regime) (a : Access) (m : List ℕ) where
         (told r a (leaf_in l) (reads_of r a m), passed_result r a m c q l),
   )
 
-  fault_first : walk_check (length m) r a ≡ Accepted → (k : FaultKind) (l : ℕ) → FirstFails (steps_of r a m) k l
+  fault_first : walk_check (length m) r a ≡ Ok tt → (k : FaultKind) (l : ℕ) → FirstFails (steps_of r a m) k l
       → (f : Faulted) × ((walk r a m).result ≡ faulted f) × (f.code ≡ code_of k l) × (f.level ≡ l) × ((walk r a m).bytes ≡ m)
   fault_first c k l h =
       let q = fails_some h in
       (fault_of r a m (k, l), failed_result r a m c (k, l) q, refl, refl, failed_bytes r a m c (k, l) q)
 
-  reads_most : walk_check (length m) r a ≡ Accepted → reads_of r a m ≤ 4
+  reads_most : walk_check (length m) r a ≡ Ok tt → reads_of r a m ≤ 4
   unfolding traced
   reads_most c = locate_visited r (pool_reader r (pool_bytes r.pool m)) a.address.0 (ready (length m) r a c).sized
 
@@ -87,18 +86,18 @@ module _ (r : Regime) (a : Access) (m : List ℕ) where
       let q : f.cacheable ≡ end_cacheable (trace_of r a m).end = ap (λ (x : Faulted). x.cacheable) g.2 in
       (λ h. by g.0 g.1 (trace_of r a m).end refl (sym q ∙ h), λ w. q ∙ ap end_cacheable w.0.reached ∙ w.1)
     where
-      kinds : (g : Fault) (l : LeafOf r a m) → first_fault (steps_of r a m) ≡ some g → (g ≡ (Alignment, level_of l.left)) ⊎ (g ≡ (Permission, level_of l.left))
+      kinds : (g : Fault) (l : LeafOf r a m) → first_fault (steps_of r a m) ≡ Some g → (g ≡ (Alignment, level_of l.left)) ⊎ (g ≡ (Permission, level_of l.left))
           → FirstFails (steps_of r a m) Alignment (level_of l.left) ⊎ FirstFails (steps_of r a m) Permission (level_of l.left)
-      kinds g l p (inl i) = inl (some_fails (steps_of r a m) Alignment (level_of l.left) (p ∙ ap some i))
-      kinds g l p (inr i) = inr (some_fails (steps_of r a m) Permission (level_of l.left) (p ∙ ap some i))
+      kinds g l p (inl i) = inl (some_fails (steps_of r a m) Alignment (level_of l.left) (p ∙ ap Some i))
+      kinds g l p (inr i) = inr (some_fails (steps_of r a m) Permission (level_of l.left) (p ∙ ap Some i))
 
-      by : (g : Fault) → first_fault (steps_of r a m) ≡ some g → (x : End) → (trace_of r a m).end ≡ x → end_cacheable x ≡ true
+      by : (g : Fault) → first_fault (steps_of r a m) ≡ Some g → (x : End) → (trace_of r a m).end ≡ x → end_cacheable x ≡ true
           → (l : LeafOf r a m) × (af l.value ≡ true)
           × (FirstFails (steps_of r a m) Alignment (level_of l.left) ⊎ FirstFails (steps_of r a m) Permission (level_of l.left))
       by g p (fault kind level) i h = differ (sym h)
       by g p (leaf address x) i h =
           let l : LeafOf r a m = record { address = address; value = x.value; left = x.left; tables = x.tables; reached = i } in
-          let j : first_fault (leaf_steps r a (leaf_in l)) ≡ some g = leaf_first r a m l ∙ p in
+          let j : first_fault (leaf_steps r a (leaf_in l)) ≡ Some g = leaf_first r a m l ∙ p in
           (l, h, kinds g l p (leaf_kind r a (leaf_in l) h g j))
 
   -- ---- a success

@@ -2,7 +2,7 @@
 use Prim.Native.Nat.{ℕ, zero, suc}
 use mathlib.Core.Bool.{Bool, true, false, not, ◌||◌}
 use mathlib.Core.List.{List, [], ◌∷◌}
-use mathlib.Core.Option.{Option, none, some}
+use Rattle.std.specs.Prelude.{Option, None, Some}
 use mathlib.Core.Path.{◌≡◌, refl, sym, subst}
 use native.Mathlib.Omega.{arith}
 use lib.Dec.{leb, eqb}
@@ -13,11 +13,8 @@ use Rattle.vmsa.specs.Fields.{no_tables, with_table}
 use Rattle.geometry.specs.Geometry.{level_of, first_left, output_limit}
 use Rattle.vmsa.specs.declared.Regime.{Regime}
 use Rattle.vmsa.specs.declared.Access.{Access}
-use Rattle.vmsa.specs.declared.Leaf.{Leaf}
 use Rattle.vmsa.specs.declared.FaultKind.{FaultKind}
 use Rattle.vmsa.specs.declared.FaultKind.TheVariants.{AddressSize, Translation, ExternalAbort}
-use Rattle.lookup.specs.declared.Word.{Word}
-use Rattle.lookup.specs.declared.Word.TheVariants.{Value, Unreachable}
 use Rattle.lookup.specs.declared.Next.TheVariants as next
 use Rattle.lookup.specs.declared.Context.{Context}
 use Rattle.lookup.specs.Trace.{End, fault, leaf, Trace, ended, end_under_hpd}
@@ -30,34 +27,34 @@ abbrev pub Fault : Type 0
 Fault = FaultKind × ℕ
 
 abbrev pub first_fault : List Step → Option Fault
-first_fault [] = none
-first_fault (s ∷ steps) = pick s.fails (some (s.kind, s.level)) (first_fault steps)
+first_fault [] = None
+first_fault (s ∷ steps) = pick s.fails (Some (s.kind, s.level)) (first_fault steps)
 
-pub passes_none : {steps : List Step} → AllPass steps → first_fault steps ≡ none
+pub passes_none : {steps : List Step} → AllPass steps → first_fault steps ≡ None
 passes_none done = refl
 passes_none (pass p) = passes_none p
 
-pub fails_some : {steps : List Step} {k : FaultKind} {l : ℕ} → FirstFails steps k l → first_fault steps ≡ some (k, l)
+pub fails_some : {steps : List Step} {k : FaultKind} {l : ℕ} → FirstFails steps k l → first_fault steps ≡ Some (k, l)
 fails_some here = refl
 fails_some (later f) = fails_some f
 
 -- there is a fault, or there is none
-pub no_fault : {A : Type 0} (f : Fault) → ◌≡◌ {A = Option Fault} (some f) none → A
+pub no_fault : {A : Type 0} (f : Fault) → ◌≡◌ {A = Option Fault} (Some f) None → A
 no_fault f e = absurd (let z : ◌≡◌ {A = ℕ} 0 1 = cc in omega arith)
 
-pub none_passes : (steps : List Step) → first_fault steps ≡ none → AllPass steps
+pub none_passes : (steps : List Step) → first_fault steps ≡ None → AllPass steps
 none_passes [] e = done
 none_passes (s ∷ steps) e = by s.fails e (none_passes steps)
   where
-    by : (b : Bool) → pick b (some (s.kind, s.level)) (first_fault steps) ≡ none → (first_fault steps ≡ none → AllPass steps) → AllPass (step b s.kind s.level ∷ steps)
+    by : (b : Bool) → pick b (Some (s.kind, s.level)) (first_fault steps) ≡ None → (first_fault steps ≡ None → AllPass steps) → AllPass (step b s.kind s.level ∷ steps)
     by true q k = no_fault (s.kind, s.level) q
     by false q k = pass (k q)
 
-pub some_fails : (steps : List Step) (k : FaultKind) (l : ℕ) → first_fault steps ≡ some (k, l) → FirstFails steps k l
+pub some_fails : (steps : List Step) (k : FaultKind) (l : ℕ) → first_fault steps ≡ Some (k, l) → FirstFails steps k l
 some_fails [] k l e = no_fault (k, l) (sym e)
 some_fails (s ∷ steps) k l e = by s.fails s.kind s.level e (some_fails steps k l)
   where
-    by : (b : Bool) (kind : FaultKind) (level : ℕ) → pick b (some (kind, level)) (first_fault steps) ≡ some (k, l) → (first_fault steps ≡ some (k, l) → FirstFails steps k l)
+    by : (b : Bool) (kind : FaultKind) (level : ℕ) → pick b (Some (kind, level)) (first_fault steps) ≡ Some (k, l) → (first_fault steps ≡ Some (k, l) → FirstFails steps k l)
         → FirstFails (step b kind level ∷ steps) k l
     by true kind level q h =
         let p : ◌≡◌ {A = Fault} (kind, level) (k, l) = cc in
@@ -69,7 +66,7 @@ some_fails (s ∷ steps) k l e = by s.fails s.kind s.level e (some_fails steps k
 module _ (r : Regime) (a : Access) where
   -- the fault that an end of steps 1 to 5 comes to
   abbrev pub end_fault : End → Option Fault
-  end_fault (fault kind level) = some (kind, level)
+  end_fault (fault kind level) = Some (kind, level)
   end_fault (leaf at l) = first_fault (leaf_steps r a l)
 
   hpd : Bool
@@ -98,18 +95,18 @@ module _ (r : Regime) (a : Access) where
     unfolding is_table
     no_table v e = differ (sym (and_true (bit 1 v) (not (eqb 0 0)) e).1)
 
-    module _ (read : ℕ → Word) where
+    module _ (read : ℕ → Option ℕ) where
       entry_steps_lem : (below : ℕ → ℕ → List Step) (goes : ℕ → ℕ → Trace) (left sum table : ℕ)
           → ((v s t : ℕ) → is_table left v ≡ true → first_fault (below s t) ≡ end_fault (end_under_hpd hpd (goes s t).end))
           → first_fault (entry_steps r a c below sum left (read (entry_at c left table))) ≡ end_fault (end_under_hpd hpd (entered c read goes left sum table).end)
       unfolding entered
       entry_steps_lem below goes left sum table h = by (read (entry_at c left table))
         where
-          by : (w : Word)
+          by : (w : Option ℕ)
               → first_fault (entry_steps r a c below sum left w)
               ≡ end_fault (end_under_hpd hpd (on_word (ended (fault ExternalAbort (level_of left))) (followed c goes sum left (entry_at c left table)) w).end)
-          by (Value v) = descriptor_steps_lem below goes sum left (entry_at c left table) v (h v)
-          by Unreachable = refl
+          by (Some v) = descriptor_steps_lem below goes sum left (entry_at c left table) v (h v)
+          by None = refl
 
       -- any number of levels from a table on
       level_steps_lem : (n sum table : ℕ) → first_fault (level_steps r a c read (suc n) sum table) ≡ end_fault (end_under_hpd hpd (descend c read (suc n) sum table).end)

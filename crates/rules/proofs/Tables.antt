@@ -14,11 +14,9 @@ use Rattle.vmsa.specs.Fields.{sum_count, no_tables, with_table}
 use Rattle.vmsa.specs.declared.Regime.{Regime}
 use Rattle.vmsa.specs.declared.Access.{Access}
 use Rattle.vmsa.specs.declared.Leaf.{Leaf}
-use Rattle.checks.specs.declared.Checked.{Checked}
-use Rattle.checks.specs.declared.Checked.TheVariants.{Accepted, Refused}
+use Rattle.checks.specs.Order.{Checked}
+use Rattle.std.specs.Prelude.{Ok, Err, Option, Some, None}
 use Rattle.checks.specs.Order.{walk_check}
-use Rattle.lookup.specs.declared.Word.{Word}
-use Rattle.lookup.specs.declared.Word.TheVariants.{Value, Unreachable}
 use Rattle.lookup.specs.Trace.{End, fault, leaf, leaf_under_hpd, end_under_hpd}
 use Rattle.lookup.specs.Steps.{range_of, lookup, locate}
 use Rattle.lookup.proofs.Sums.{with_word, sum_along, locate_sum, below_sum, clear_sum}
@@ -40,10 +38,10 @@ or_second true b e = refl
 or_second false b e = e
 
 -- a test that bit n of each table joins
-module _ (read : ℕ → Word) (test : ℕ → Bool) (n : ℕ) (adds : (s v : ℕ) → test (with_table s v) ≡ (test s || bit n v)) where
+module _ (read : ℕ → Option ℕ) (test : ℕ → Bool) (n : ℕ) (adds : (s v : ℕ) → test (with_table s v) ≡ (test s || bit n v)) where
   -- one of the descriptors but the last has the bit
   Has : List ℕ → Type 0
-  Has visited = (i : ℕ) × (v : ℕ) × (suc i < length visited) × (read (get_or visited i 0) ≡ Value v) × (bit n v ≡ true)
+  Has visited = (i : ℕ) × (v : ℕ) × (suc i < length visited) × (read (get_or visited i 0) ≡ Some v) × (bit n v ≡ true)
 
   from_sum : (visited : List ℕ) (s : ℕ) → test (sum_along read s visited) ≡ true → (test s ≡ true) ⊎ Has visited
   unfolding Has
@@ -51,29 +49,29 @@ module _ (read : ℕ → Word) (test : ℕ → Bool) (n : ℕ) (adds : (s v : �
   from_sum (last ∷ []) s e = inl e
   from_sum (table ∷ next ∷ rest) s e = by (read table) refl (from_sum (next ∷ rest) (with_word s (read table)) e)
     where
-      here : (v : ℕ) → read table ≡ Value v → (test s ≡ true) ⊎ (bit n v ≡ true) → (test s ≡ true) ⊎ Has (table ∷ next ∷ rest)
+      here : (v : ℕ) → read table ≡ Some v → (test s ≡ true) ⊎ (bit n v ≡ true) → (test s ≡ true) ⊎ Has (table ∷ next ∷ rest)
       here v q (inl z) = inl z
       here v q (inr z) = inr (0, v, suc-le-suc (zero-lt-suc _), q, z)
 
-      by : (w : Word) → read table ≡ w → (test (with_word s (read table)) ≡ true) ⊎ Has (next ∷ rest) → (test s ≡ true) ⊎ Has (table ∷ next ∷ rest)
+      by : (w : Option ℕ) → read table ≡ w → (test (with_word s (read table)) ≡ true) ⊎ Has (next ∷ rest) → (test s ≡ true) ⊎ Has (table ∷ next ∷ rest)
       by w q (inr h) = inr (suc h.0, h.1, suc-le-suc h.2, h.3, h.4)
-      by (Value v) q (inl z) = here v q (or_either (test s) (bit n v) (sym (adds s v) ∙ sym (ap (λ (w : Word). test (with_word s w)) q) ∙ z))
-      by Unreachable q (inl z) = inl (sym (ap (λ (w : Word). test (with_word s w)) q) ∙ z)
+      by (Some v) q (inl z) = here v q (or_either (test s) (bit n v) (sym (adds s v) ∙ sym (ap (λ (w : Option ℕ). test (with_word s w)) q) ∙ z))
+      by None q (inl z) = inl (sym (ap (λ (w : Option ℕ). test (with_word s w)) q) ∙ z)
 
   kept_in_sum : (visited : List ℕ) (s : ℕ) → test s ≡ true → test (sum_along read s visited) ≡ true
   kept_in_sum [] s e = e
   kept_in_sum (last ∷ []) s e = e
   kept_in_sum (table ∷ next ∷ rest) s e = kept_in_sum (next ∷ rest) (with_word s (read table)) (by (read table))
     where
-      by : (w : Word) → test (with_word s w) ≡ true
-      by (Value v) = adds s v ∙ or_first (test s) (bit n v) e
-      by Unreachable = e
+      by : (w : Option ℕ) → test (with_word s w) ≡ true
+      by (Some v) = adds s v ∙ or_first (test s) (bit n v) e
+      by None = e
 
-  into_sum : (visited : List ℕ) (s i v : ℕ) → suc i < length visited → read (get_or visited i 0) ≡ Value v → bit n v ≡ true → test (sum_along read s visited) ≡ true
+  into_sum : (visited : List ℕ) (s i v : ℕ) → suc i < length visited → read (get_or visited i 0) ≡ Some v → bit n v ≡ true → test (sum_along read s visited) ≡ true
   into_sum [] s i v h q e = absurd (omega arith)
   into_sum (last ∷ []) s i v h q e = absurd (omega arith)
   into_sum (table ∷ next ∷ rest) s zero v h q e =
-      kept_in_sum (next ∷ rest) (with_word s (read table)) (ap (λ (w : Word). test (with_word s w)) q ∙ adds s v ∙ or_second (test s) (bit n v) e)
+      kept_in_sum (next ∷ rest) (with_word s (read table)) (ap (λ (w : Option ℕ). test (with_word s w)) q ∙ adds s v ∙ or_second (test s) (bit n v) e)
   into_sum (table ∷ next ∷ rest) s (suc i) v h q e = into_sum (next ∷ rest) (with_word s (read table)) i v (omega arith) q e
 
 -- ---- the sum of an access
@@ -134,5 +132,5 @@ module _ (r : Regime) (a : Access) (m : List ℕ) where
   bare_walk_lem h = by (walk_check (length m) r a)
     where
       by : (c : Checked) → checked (walk_pool r a) r.pool m c ≡ checked (bare_pool r a) r.pool m c
-      by (Refused x) = refl
-      by Accepted = rw (bare_pool_lem h)
+      by (Err x) = refl
+      by (Ok _) = rw (bare_pool_lem h)

@@ -3,7 +3,7 @@ use Prim.Native.Nat.{ℕ, ◌/◌, ◌^◌, ◌<◌, ◌≤◌}
 use mathlib.Core.Bool.{Bool, true, false, not, ◌&&◌, ◌||◌, and-false}
 use mathlib.Core.List.{[], ◌∷◌}
 use mathlib.Core.Logic.{◌⊎◌, inl, inr, ◌≢◌}
-use mathlib.Core.Option.{none, some}
+use Rattle.std.specs.Prelude.{None, Some}
 use mathlib.Core.Path.{◌≡◌, refl, sym, ap, ◌∙◌}
 use native.Mathlib.Omega.{arith}
 use lib.Dec.{lit<}
@@ -127,11 +127,11 @@ module _ (r : Regime) (a : Access) (l : Leaf) where
 
   -- ---- a leaf none of whose steps fails
 
-  pub leaf_clear : first_fault (leaf_steps r a l) ≡ none → (flag_fails r l ≡ false) × (alignment_fails r a l ≡ false) × (permission_fails r a l ≡ false)
+  pub leaf_clear : first_fault (leaf_steps r a l) ≡ None → (flag_fails r l ≡ false) × (alignment_fails r a l ≡ false) × (permission_fails r a l ≡ false)
   unfolding leaf_steps
   leaf_clear e = by (flag_fails r l) (alignment_fails r a l) (permission_fails r a l) e
     where
-      by : (x y z : Bool) → first_fault (step x AccessFlag (level_of l.left) ∷ step y Alignment (level_of l.left) ∷ step z Permission (level_of l.left) ∷ []) ≡ none
+      by : (x y z : Bool) → first_fault (step x AccessFlag (level_of l.left) ∷ step y Alignment (level_of l.left) ∷ step z Permission (level_of l.left) ∷ []) ≡ None
           → (x ≡ false) × (y ≡ false) × (z ≡ false)
       by true y z q = no_fault (AccessFlag, level_of l.left) q
       by false true z q = no_fault (Alignment, level_of l.left) q
@@ -195,12 +195,12 @@ module _ (r : Regime) (a : Access) (l : Leaf) where
 
   -- ---- a leaf with AF 1 fails by step 7 or 8
 
-  pub leaf_kind : af l.value ≡ true → (f : Fault) → first_fault (leaf_steps r a l) ≡ some f
+  pub leaf_kind : af l.value ≡ true → (f : Fault) → first_fault (leaf_steps r a l) ≡ Some f
       → (f ≡ (Alignment, level_of l.left)) ⊎ (f ≡ (Permission, level_of l.left))
   unfolding leaf_steps flag_fails
   leaf_kind e f q = by (alignment_fails r a l) (permission_fails r a l) (rw e at q)
     where
-      by : (y z : Bool) → first_fault (step false AccessFlag (level_of l.left) ∷ step y Alignment (level_of l.left) ∷ step z Permission (level_of l.left) ∷ []) ≡ some f
+      by : (y z : Bool) → first_fault (step false AccessFlag (level_of l.left) ∷ step y Alignment (level_of l.left) ∷ step z Permission (level_of l.left) ∷ []) ≡ Some f
           → (f ≡ (Alignment, level_of l.left)) ⊎ (f ≡ (Permission, level_of l.left))
       by true z p = inl (cc)
       by false true p = inr (cc)

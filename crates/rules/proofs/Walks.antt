@@ -1,18 +1,16 @@
 -- The walk over the memory, from its checks and the walk over the pool.
 use Prim.Native.Nat.{ℕ, ◌+◌, ◌-◌, ◌%◌, ◌≤◌}
-use mathlib.Core.Bool.{false, ◌||◌}
+use mathlib.Core.Bool.{◌||◌}
 use mathlib.Core.List.{List}
-use mathlib.Core.Option.{Option, none, some}
+use Rattle.std.specs.Prelude.{Option, None, Some, Ok, Err}
 use mathlib.Core.Path.{◌≡◌, refl, sym, ap, ◌∙◌}
 use native.Mathlib.Omega.{arith}
-use lib.Dec.{eqb}
 use lib.ListN.{length}
-use borrow.Author.Tests.{eqb-true, not-false}
-use Rattle.descriptor.specs.Bytes.{Bytes, put}
+use Rattle.descriptor.specs.Bytes.{put}
 use Rattle.descriptor.specs.Bits.{pick}
 use Rattle.descriptor.proofs.Tests.{clash, pick_both}
 use Rattle.descriptor.proofs.Laws.{length_put}
-use Rattle.geometry.specs.Geometry.{level_of, page_size, unaligned}
+use Rattle.geometry.specs.Geometry.{level_of}
 use Rattle.vmsa.specs.Fields.{shareability, nonglobal}
 use Rattle.vmsa.specs.Answers.{Faulted, success, fault as faulted, refused, code_of, number_of}
 use Rattle.vmsa.specs.declared.Regime.{Regime}
@@ -20,8 +18,7 @@ use Rattle.vmsa.specs.declared.Access.{Access}
 use Rattle.vmsa.specs.declared.Leaf.{Leaf}
 use Rattle.vmsa.specs.declared.Success.{Success}
 use Rattle.vmsa.specs.declared.Refusal.{Refusal}
-use Rattle.checks.specs.declared.Checked.{Checked}
-use Rattle.checks.specs.declared.Checked.TheVariants.{Accepted, Refused}
+use Rattle.checks.specs.Order.{Checked}
 use Rattle.checks.specs.Order.{walk_check}
 use Rattle.checks.proofs.Accept.{walk_accepted}
 use Rattle.permission.specs.Permission.{attribute_of}
@@ -63,11 +60,11 @@ updated_leaf r a l = updated (flag_due r a l) (dirty_due r a l) l.value
 module _ (r : Regime) (a : Access) (m : List ℕ) where
   -- ---- by what the checks say
 
-  pub walk_refused : (x : Refusal) → walk_check (length m) r a ≡ Refused x → walk r a m ≡ record { result = refused (number_of x); bytes = m }
+  pub walk_refused : (x : Refusal) → walk_check (length m) r a ≡ Err x → walk r a m ≡ record { result = refused (number_of x); bytes = m }
   unfolding walk
   walk_refused x e = rw e
 
-  pub walk_taken : walk_check (length m) r a ≡ Accepted
+  pub walk_taken : walk_check (length m) r a ≡ Ok tt
       → walk r a m
       ≡ record {
         result = (walk_pool r a (pool_bytes r.pool m)).result;
@@ -78,7 +75,7 @@ module _ (r : Regime) (a : Access) (m : List ℕ) where
 
   -- ---- where a leaf lies
 
-  module _ (c : walk_check (length m) r a ≡ Accepted) where
+  module _ (c : walk_check (length m) r a ≡ Ok tt) where
     pub leaf_found : (l : LeafOf r a m) → Found r (pool_bytes r.pool m) a.address.0 l.address (leaf_in l)
     leaf_found l =
         let h = ready (length m) r a c in
@@ -110,9 +107,9 @@ module _ (r : Regime) (a : Access) (m : List ℕ) where
 
   -- ---- by the first failing step: where none fails there is a leaf, and it decides
 
-  pub passed_leaf : first_fault (steps_of r a m) ≡ none → LeafOf r a m
+  pub passed_leaf : first_fault (steps_of r a m) ≡ None → LeafOf r a m
   passed_leaf q =
-      let p = pool_by r a (pool_bytes r.pool m) none q in
+      let p = pool_by r a (pool_bytes r.pool m) None q in
       let l = p.found in
       record { address = p.address; value = l.value; left = l.left; tables = l.tables; reached = p.ends }
 
@@ -120,7 +117,7 @@ module _ (r : Regime) (a : Access) (m : List ℕ) where
   pub leaf_first : (l : LeafOf r a m) → first_fault (leaf_steps r a (leaf_in l)) ≡ first_fault (steps_of r a m)
   leaf_first l = sym (walk_steps_lem r a (pool_bytes r.pool m) ∙ ap (end_fault r a) l.reached)
 
-  passed_pool : first_fault (steps_of r a m) ≡ none → (l : LeafOf r a m)
+  passed_pool : first_fault (steps_of r a m) ≡ None → (l : LeafOf r a m)
       → walk_pool r a (pool_bytes r.pool m) ≡ applied r.ee (pool_bytes r.pool m) (l.address - r.pool.address.0) (passing r a (leaf_in l) (reads_of r a m))
   passed_pool q l = leaf_passes r a (pool_bytes r.pool m) l.address (leaf_in l) l.reached (leaf_first l ∙ q)
 
@@ -128,18 +125,18 @@ module _ (r : Regime) (a : Access) (m : List ℕ) where
   abbrev pub fault_of : Fault → Faulted
   fault_of f = record { code = code_of f.0 f.1; level = f.1; cacheable = end_cacheable (trace_of r a m).end; reads = reads_of r a m }
 
-  module _ (c : walk_check (length m) r a ≡ Accepted) where
-    pub failed_result : (f : Fault) → first_fault (steps_of r a m) ≡ some f → (walk r a m).result ≡ faulted (fault_of f)
-    failed_result f q = rw (walk_taken c, pool_by r a (pool_bytes r.pool m) (some f) q)
+  module _ (c : walk_check (length m) r a ≡ Ok tt) where
+    pub failed_result : (f : Fault) → first_fault (steps_of r a m) ≡ Some f → (walk r a m).result ≡ faulted (fault_of f)
+    failed_result f q = rw (walk_taken c, pool_by r a (pool_bytes r.pool m) (Some f) q)
 
-    pub failed_bytes : (f : Fault) → first_fault (steps_of r a m) ≡ some f → (walk r a m).bytes ≡ m
-    failed_bytes f q = rw (walk_taken c, pool_by r a (pool_bytes r.pool m) (some f) q) (with_own m r.pool.start r.pool.length)
+    pub failed_bytes : (f : Fault) → first_fault (steps_of r a m) ≡ Some f → (walk r a m).bytes ≡ m
+    failed_bytes f q = rw (walk_taken c, pool_by r a (pool_bytes r.pool m) (Some f) q) (with_own m r.pool.start r.pool.length)
 
-    pub passed_result : first_fault (steps_of r a m) ≡ none → (l : LeafOf r a m) → (walk r a m).result ≡ success (told r a (leaf_in l) (reads_of r a m))
+    pub passed_result : first_fault (steps_of r a m) ≡ None → (l : LeafOf r a m) → (walk r a m).result ≡ success (told r a (leaf_in l) (reads_of r a m))
     unfolding passing
     passed_result q l = rw (walk_taken c, passed_pool q l)
 
-    pub passed_bytes : first_fault (steps_of r a m) ≡ none → (l : LeafOf r a m)
+    pub passed_bytes : first_fault (steps_of r a m) ≡ None → (l : LeafOf r a m)
         → (walk r a m).bytes ≡ pick (flag_due r a (leaf_in l) || dirty_due r a (leaf_in l)) (put r.ee m (offset l) (updated_leaf r a (leaf_in l))) m
     unfolding passing
     passed_bytes q l =
@@ -156,7 +153,7 @@ module _ (r : Regime) (a : Access) (m : List ℕ) where
         pool = pool_bytes r.pool m
 
         by : (o : Option Fault) → first_fault (steps_of r a m) ≡ o → length (walk_pool r a pool).bytes ≡ r.pool.length
-        by none q =
+        by None q =
             let l = passed_leaf q in
             let at = l.address - r.pool.address.0 in
             let n = pool_long c in
@@ -165,57 +162,57 @@ module _ (r : Regime) (a : Access) (m : List ℕ) where
             rw (passed_pool q l)
             (pick_both (λ (x : List ℕ). length x ≡ r.pool.length) (flag_due r a (leaf_in l) || dirty_due r a (leaf_in l)) (put r.ee pool at v) pool
             (length_put r.ee pool at v (omega arith) ∙ n) n)
-        by (some f) q = rw (pool_by r a pool (some f) q) (pool_long c)
+        by (Some f) q = rw (pool_by r a pool (Some f) q) (pool_long c)
 
     -- no walk that is taken refuses
     pub taken_answers : (k : ℕ) → (walk r a m).result ≡ refused k → ⊥
     taken_answers k e = by (first_fault (steps_of r a m)) refl
       where
         by : (o : Option Fault) → first_fault (steps_of r a m) ≡ o → ⊥
-        by none q = clash (let z = passed_result q (passed_leaf q) in cc)
-        by (some f) q = clash (let z = failed_result f q in cc)
+        by None q = clash (let z = passed_result q (passed_leaf q) in cc)
+        by (Some f) q = clash (let z = failed_result f q in cc)
 
   -- ---- by the answer
 
-  pub refused_by : (k : ℕ) → (walk r a m).result ≡ refused k → (x : Refusal) × (walk_check (length m) r a ≡ Refused x) × (number_of x ≡ k)
+  pub refused_by : (k : ℕ) → (walk r a m).result ≡ refused k → (x : Refusal) × (walk_check (length m) r a ≡ Err x) × (number_of x ≡ k)
   refused_by k e = by (walk_check (length m) r a) refl
     where
-      by : (c : Checked) → walk_check (length m) r a ≡ c → (x : Refusal) × (walk_check (length m) r a ≡ Refused x) × (number_of x ≡ k)
-      by (Refused x) h =
+      by : (c : Checked) → walk_check (length m) r a ≡ c → (x : Refusal) × (walk_check (length m) r a ≡ Err x) × (number_of x ≡ k)
+      by (Err x) h =
           let w : refused (number_of x) ≡ refused k = sym (ap (λ (o : Outcome). o.result) (walk_refused x h)) ∙ e in
           (x, h, (cc))
-      by Accepted h = absurd (taken_answers h k e)
+      by (Ok _) h = absurd (taken_answers h k e)
 
-  pub taken_by : ((k : ℕ) → (walk r a m).result ≡ refused k → ⊥) → walk_check (length m) r a ≡ Accepted
+  pub taken_by : ((k : ℕ) → (walk r a m).result ≡ refused k → ⊥) → walk_check (length m) r a ≡ Ok tt
   taken_by n = by (walk_check (length m) r a) refl
     where
-      by : (c : Checked) → walk_check (length m) r a ≡ c → c ≡ Accepted
-      by (Refused x) h = absurd (n (number_of x) (ap (λ (o : Outcome). o.result) (walk_refused x h)))
-      by Accepted h = refl
+      by : (c : Checked) → walk_check (length m) r a ≡ c → c ≡ Ok tt
+      by (Err x) h = absurd (n (number_of x) (ap (λ (o : Outcome). o.result) (walk_refused x h)))
+      by (Ok _) h = refl
 
   module _ (f : Faulted) (e : (walk r a m).result ≡ faulted f) where
-    pub fault_taken : walk_check (length m) r a ≡ Accepted
+    pub fault_taken : walk_check (length m) r a ≡ Ok tt
     fault_taken = taken_by (λ k q. clash (let z : faulted f ≡ refused k = sym e ∙ q in cc))
 
-    pub fault_some : (g : Fault) × (first_fault (steps_of r a m) ≡ some g) × (f ≡ fault_of g)
+    pub fault_some : (g : Fault) × (first_fault (steps_of r a m) ≡ Some g) × (f ≡ fault_of g)
     fault_some = by (first_fault (steps_of r a m)) refl
       where
-        by : (o : Option Fault) → first_fault (steps_of r a m) ≡ o → (g : Fault) × (first_fault (steps_of r a m) ≡ some g) × (f ≡ fault_of g)
-        by none q = clash (let z = passed_result fault_taken q (passed_leaf q) in cc)
-        by (some g) q =
+        by : (o : Option Fault) → first_fault (steps_of r a m) ≡ o → (g : Fault) × (first_fault (steps_of r a m) ≡ Some g) × (f ≡ fault_of g)
+        by None q = clash (let z = passed_result fault_taken q (passed_leaf q) in cc)
+        by (Some g) q =
             let z : faulted f ≡ faulted (fault_of g) = sym e ∙ failed_result fault_taken g q in
             (g, q, (cc))
 
   module _ (s : Success) (e : (walk r a m).result ≡ success s) where
-    pub success_taken : walk_check (length m) r a ≡ Accepted
+    pub success_taken : walk_check (length m) r a ≡ Ok tt
     success_taken = taken_by (λ k q. clash (let z : success s ≡ refused k = sym e ∙ q in cc))
 
-    pub success_none : first_fault (steps_of r a m) ≡ none
+    pub success_none : first_fault (steps_of r a m) ≡ None
     success_none = by (first_fault (steps_of r a m)) refl
       where
-        by : (o : Option Fault) → first_fault (steps_of r a m) ≡ o → o ≡ none
-        by none q = refl
-        by (some f) q = clash (let z = failed_result success_taken f q in cc)
+        by : (o : Option Fault) → first_fault (steps_of r a m) ≡ o → o ≡ None
+        by None q = refl
+        by (Some f) q = clash (let z = failed_result success_taken f q in cc)
 
     pub success_leaf : LeafOf r a m
     success_leaf = passed_leaf success_none

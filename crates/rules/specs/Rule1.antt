@@ -1,12 +1,11 @@
 -- Rule 1 (RULES 13) for the plain walk, over any bytes, regime and access.
 -- That every call gets an answer and ends is the code's contract: it asks nothing of its caller, and its outcome equals `walk`.
-use Rattle.std.specs.Prelude.{ℕ, ◌+◌, ◌<◌, ◌≤◌, Bool, true, false, List, ◌∷◌, ◌⊎◌, ◌↔◌, ◌≢◌, ◌≡◌, length, get_or}
+use Rattle.std.specs.Prelude.{ℕ, ◌+◌, ◌<◌, ◌≤◌, Bool, true, false, List, ◌∷◌, ◌⊎◌, ◌↔◌, ◌≢◌, ◌≡◌, length, get_or, Ok}
 use Rattle.descriptor.specs.Bytes.{Bytes}
 use Rattle.vmsa.specs.Answers.{refused, number_of}
 use Rattle.vmsa.specs.declared.Regime.{Regime}
 use Rattle.vmsa.specs.declared.Access.{Access}
 use Rattle.vmsa.specs.declared.Refusal.{Refusal}
-use Rattle.checks.specs.declared.Checked.TheVariants.{Accepted}
 use Rattle.checks.specs.Order.{walk_rows, walk_check}
 use Rattle.walk.specs.Walk.{walk, pool_bytes}
 
@@ -27,7 +26,7 @@ pub record Rule1 : Type 0 where
   -- a refusal is given exactly where the table (RULES 5) says, with the number of the first row that applies
   pub refusals : (r : Regime) (a : Access) (m : List ℕ) (k : ℕ) → ((walk r a m).result ≡ refused k) ↔ FirstNumber (walk_rows (length m) r a) k
   -- and is not given exactly where the checks of that table accept
-  pub accepted : (r : Regime) (a : Access) (m : List ℕ) → (walk_check (length m) r a ≡ Accepted) ↔ ((k : ℕ) → (walk r a m).result ≢ refused k)
+  pub accepted : (r : Regime) (a : Access) (m : List ℕ) → (walk_check (length m) r a ≡ Ok tt) ↔ ((k : ℕ) → (walk r a m).result ≢ refused k)
   -- so no walk goes on with HD on and HA off (row 13)
   pub managed : (r : Regime) (a : Access) (m : List ℕ) → ((k : ℕ) → (walk r a m).result ≢ refused k) → Managed r
   -- a refusal changes no memory (a plain walk has no session)

@@ -1,5 +1,5 @@
 -- Rule 2 (RULES 13): what a plain walk answers and changes where it is not refused, that is, where its checks accept (rule 1).
-use Rattle.std.specs.Prelude.{ℕ, ◌+◌, ◌-◌, ◌%◌, ◌<◌, ◌≤◌, Bool, true, false, List, ◌⊎◌, ◌↔◌, ◌≢◌, ◌≡◌, length, get_or}
+use Rattle.std.specs.Prelude.{ℕ, ◌+◌, ◌-◌, ◌%◌, ◌<◌, ◌≤◌, Bool, true, false, List, ◌⊎◌, ◌↔◌, ◌≢◌, ◌≡◌, length, get_or, Ok}
 use Rattle.descriptor.specs.Bytes.{Bytes, desc}
 use Rattle.descriptor.specs.Bits.{bit}
 use Rattle.geometry.specs.Geometry.{level_of, span, cut, output_limit}
@@ -14,7 +14,6 @@ use Rattle.vmsa.specs.declared.Leaf.{Leaf}
 use Rattle.vmsa.specs.declared.Success.{Success}
 use Rattle.vmsa.specs.declared.FaultKind.{FaultKind}
 use Rattle.vmsa.specs.declared.FaultKind.TheVariants.{Permission, Alignment}
-use Rattle.checks.specs.declared.Checked.TheVariants.{Accepted}
 use Rattle.checks.specs.Order.{walk_check}
 use Rattle.lookup.specs.Trace.{leaf}
 use Rattle.permission.specs.Permission.{writable}
@@ -99,15 +98,15 @@ pub record Rule2 : Type 0 where
   -- the walk permits an access or one step is the first to fail: there is no third case
   pub decided : (r : Regime) (a : Access) (m : List ℕ) → AllPass (steps_of r a m) ⊎ ((k : FaultKind) × (l : ℕ) × FirstFails (steps_of r a m) k l)
   -- an access that is not refused succeeds exactly when the walk permits it: when no step fails
-  pub succeeds : (r : Regime) (a : Access) (m : List ℕ) → walk_check (length m) r a ≡ Accepted
+  pub succeeds : (r : Regime) (a : Access) (m : List ℕ) → walk_check (length m) r a ≡ Ok tt
       → ((s : Success) × ((walk r a m).result ≡ success s)) ↔ AllPass (steps_of r a m)
   -- otherwise it gets the fault that is ranked first, of the first step that fails, and all memory, the pool too, is untouched
-  pub faults : (r : Regime) (a : Access) (m : List ℕ) → walk_check (length m) r a ≡ Accepted → (k : FaultKind) (l : ℕ) → FirstFails (steps_of r a m) k l
+  pub faults : (r : Regime) (a : Access) (m : List ℕ) → walk_check (length m) r a ≡ Ok tt → (k : FaultKind) (l : ℕ) → FirstFails (steps_of r a m) k l
       → (f : Faulted) × ((walk r a m).result ≡ faulted f) × (f.code ≡ code_of k l) × (f.level ≡ l) × ((walk r a m).bytes ≡ m)
   -- a success has its one leaf,
   pub leaf : (r : Regime) (a : Access) (m : List ℕ) (s : Success) → (walk r a m).result ≡ success s → LeafOf r a m
   -- and a leaf's descriptor lies in the guest's pool
-  pub placed : (r : Regime) (a : Access) (m : List ℕ) → walk_check (length m) r a ≡ Accepted → (l : LeafOf r a m) → Placed l
+  pub placed : (r : Regime) (a : Access) (m : List ℕ) → walk_check (length m) r a ≡ Ok tt → (l : LeafOf r a m) → Placed l
   -- a success gives the right address and attributes
   pub right : (r : Regime) (a : Access) (m : List ℕ) (s : Success) → (walk r a m).result ≡ success s → (l : LeafOf r a m) → Right l s
   -- it changes at most bits 10 and 7 of the one leaf descriptor, only where those updates are switched on

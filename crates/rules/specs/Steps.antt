@@ -1,5 +1,5 @@
 -- The steps of the walk as one list (RULES 6, with the tables of 6.11): each with its test, and the fault and level that it gives where it fails.
-use Rattle.std.specs.Prelude.{ℕ, zero, suc, Bool, true, false, ◌||◌, List, [], ◌∷◌, leb}
+use Rattle.std.specs.Prelude.{ℕ, zero, suc, Bool, true, false, ◌||◌, List, [], ◌∷◌, leb, Option, Some, None}
 use Rattle.descriptor.specs.Bits.{pick}
 use Rattle.vmsa.specs.Granules.{page_bits_of}
 use Rattle.vmsa.specs.Fields.{no_tables, with_table}
@@ -9,8 +9,6 @@ use Rattle.vmsa.specs.declared.Access.{Access}
 use Rattle.vmsa.specs.declared.Leaf.{Leaf}
 use Rattle.vmsa.specs.declared.FaultKind.{FaultKind}
 use Rattle.vmsa.specs.declared.FaultKind.TheVariants.{AddressSize, Translation, AccessFlag, Permission, ExternalAbort, Alignment}
-use Rattle.lookup.specs.declared.Word.{Word}
-use Rattle.lookup.specs.declared.Word.TheVariants.{Value, Unreachable}
 use Rattle.lookup.specs.declared.Context.{Context}
 use Rattle.lookup.specs.Steps.{invalid, is_table, address_in, pool_reader, entry_at, range_of, outside, context_of}
 use Rattle.lookup.specs.Trace.{leaf_under_hpd}
@@ -54,12 +52,12 @@ descriptor_steps r a c below sum left v =
     ∷ pick (is_table left v) (below (with_table sum v) (address_in c.page left v)) (leaf_steps r a (leaf_under r a sum left v))
 
 -- 3: a descriptor that is not wholly in the pool ends the walk
-abbrev pub entry_steps : Regime → Access → Context → (ℕ → ℕ → List Step) → ℕ → ℕ → Word → List Step
-entry_steps r a c below sum left (Value v) = step false ExternalAbort (level_of left) ∷ descriptor_steps r a c below sum left v
-entry_steps r a c below sum left Unreachable = step true ExternalAbort (level_of left) ∷ []
+abbrev pub entry_steps : Regime → Access → Context → (ℕ → ℕ → List Step) → ℕ → ℕ → Option ℕ → List Step
+entry_steps r a c below sum left (Some v) = step false ExternalAbort (level_of left) ∷ descriptor_steps r a c below sum left v
+entry_steps r a c below sum left None = step true ExternalAbort (level_of left) ∷ []
 
 -- 3 to 8, n levels from a table on, those above it having this sum; the last level has no tables, so nothing is below it
-unfoldable pub level_steps : Regime → Access → Context → (ℕ → Word) → ℕ → ℕ → ℕ → List Step
+unfoldable pub level_steps : Regime → Access → Context → (ℕ → Option ℕ) → ℕ → ℕ → ℕ → List Step
 level_steps r a c read zero sum table = []
 level_steps r a c read (suc left) sum table = entry_steps r a c (level_steps r a c read left) sum left (read (entry_at c left table))
 

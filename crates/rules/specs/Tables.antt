@@ -1,13 +1,11 @@
 -- The tables on the way (RULES 6.11): which bits are in their sum, the walk in which they have no say, and what they take away of a leaf.
-use Rattle.std.specs.Prelude.{ℕ, suc, ◌<◌, Bool, true, false, List, ◌≡◌, length, get_or}
+use Rattle.std.specs.Prelude.{ℕ, suc, ◌<◌, Bool, true, false, List, ◌≡◌, length, get_or, Option, Some}
 use Rattle.descriptor.specs.Bits.{pick, bit, set_bit, clear_bit}
 use Rattle.vmsa.specs.Fields.{table_bits, no_tables, no_write_below, no_user_below, uxn_below, pxn_below}
 use Rattle.vmsa.specs.declared.Regime.{Regime}
 use Rattle.vmsa.specs.declared.Access.{Access}
 use Rattle.vmsa.specs.declared.Leaf.{Leaf}
 use Rattle.checks.specs.Order.{walk_check}
-use Rattle.lookup.specs.declared.Word.{Word}
-use Rattle.lookup.specs.declared.Word.TheVariants.{Value}
 use Rattle.lookup.specs.Trace.{End, fault, leaf, Trace}
 use Rattle.lookup.specs.Steps.{pool_reader, range_of, lookup}
 use Rattle.walk.specs.Walk.{Outcome, pool_bytes, traced, walk_along, checked}
@@ -16,12 +14,12 @@ use Rattle.walk.specs.Walk.{Outcome, pool_bytes, traced, walk_along, checked}
 abbrev pub trace_of : Regime → Access → List ℕ → Trace
 trace_of r a m = traced r (pool_bytes r.pool m) a.address.0
 
-abbrev pub reader_of : Regime → List ℕ → ℕ → Word
+abbrev pub reader_of : Regime → List ℕ → ℕ → Option ℕ
 reader_of r m = pool_reader r (pool_bytes r.pool m)
 
 -- number i of the descriptors visited is a table on the way, that is, not the last, and its value is v
 abbrev pub TableAt : Regime → Access → List ℕ → ℕ → ℕ → Type 0
-TableAt r a m i v = (suc i < length (trace_of r a m).visited) × (reader_of r m (get_or (trace_of r a m).visited i 0) ≡ Value v)
+TableAt r a m i v = (suc i < length (trace_of r a m).visited) × (reader_of r m (get_or (trace_of r a m).visited i 0) ≡ Some v)
 
 -- HPD of the address's range is on; bits 62 to 59 are clear in every table on the way
 abbrev pub TablesOff : Regime → Access → Type 0

@@ -1,8 +1,8 @@
 -- Rules 1 and 3 of vmsa_session_access, in whole structs.
 use Prim.Native.Nat.{ℕ}
-use mathlib.Core.Bool.{Bool, true, false}
+use mathlib.Core.Bool.{true, false}
 use mathlib.Core.List.{List}
-use mathlib.Core.Option.{Option, none, some}
+use Rattle.std.specs.Prelude.{Option, None, Some}
 use mathlib.Core.Path.{◌≡◌, refl, sym, ap, subst, ◌∙◌}
 use lib.ListN.{length}
 use Rattle.descriptor.specs.Bytes.{Bytes}
@@ -20,7 +20,7 @@ use Rattle.tlb.specs.Walker.{no_regime}
 use Rattle.tlb.specs.Ours.{ours}
 use Rattle.session.specs.declared.Session.{Session as SessionStruct}
 use Rattle.session.specs.Model.{Handed, handed, access}
-use Rattle.session.specs.View.{session_view, regime_held, leaves}
+use Rattle.session.specs.View.{session_view, regime_held}
 use Rattle.session.proofs.Calls.{access_answer}
 use Rattle.words.specs.declared.AccessWords.{AccessWords}
 use Rattle.words.specs.declared.AnswerWords.{AnswerWords}
@@ -36,7 +36,7 @@ use Rattle.rule3.specs.Rule3.{plainly, Alike, AccessIn, Plainly, Recalled}
 use Rattle.rule3.proofs.Final.{rule_3_next_of}
 use Rattle.rules_c.specs.Readings.{result_in, answer_reply}
 use Rattle.rules_c.specs.Code.{MadeC, accessed}
-use Rattle.rules_c.specs.RulesC.{AccessRule1, AccessRule1OfC, Walks, Recalls, AccessRules, EarlyOfC, AccessOfC}
+use Rattle.rules_c.specs.RulesC.{AccessRule1OfC, Walks, Recalls, AccessRules, EarlyOfC, AccessOfC}
 use Rattle.rules_c.proofs.Numbers.{result_in_lem, is_refused, of_refused, refused_read, words_uncounted, clean_words, clean_read, dirty_words}
 use Rattle.rules_c.proofs.Chains.{made_is, made_leaves, empty_fresh, rule_1_call_c, rule_3_c}
 
@@ -90,16 +90,16 @@ access_rule_1 s m a s' m' w h =
 pub access_early : EarlyOfC
 access_early s₀ e₀ m₀ b₀ s m past chain q n a s' n' w h =
     let r = access_rule_1 s n a s' n' w h in
-    let f : FirstNumber (rows_of (length n) none (access (access_of a))) no_regime = (NoRegime, here, refl) in
-    let g : regime_held s ≡ none = known_none in
+    let f : FirstNumber (rows_of (length n) None (access (access_of a))) no_regime = (NoRegime, here, refl) in
+    let g : regime_held s ≡ None = known_none in
     let t = (r.refusals no_regime).1 (subst (λ (o : Option Regime). FirstNumber (rows_of (length n) o (access (access_of a))) no_regime) (sym g) f) in
     (t.0, t.1, (r.kept t.0).0, (r.kept t.0).1)
   where
-    known_none : regime_held s ≡ none
+    known_none : regime_held s ≡ None
     known_none =
         known regime_held MadeC rule_1_call_c s₀ m₀ chain ∙ ap (λ (o : Option Regime). regime_from o past) (ap (λ (t : _). t.regime) (empty_fresh s₀ e₀)) ∙ q
 
-module _ {s₀ : SessionStruct} (e₀ : EmptySays s₀) {m₀ : List ℕ} (b₀ : Bytes m₀) {s : SessionStruct} {m : List ℕ} {past : List Event} (chain : Chain MadeC s₀ m₀ s m past) (g : RegimeWords) (q : last_regime past ≡ some (regime_of g))
+module _ {s₀ : SessionStruct} (e₀ : EmptySays s₀) {m₀ : List ℕ} (b₀ : Bytes m₀) {s : SessionStruct} {m : List ℕ} {past : List Event} (chain : Chain MadeC s₀ m₀ s m past) (g : RegimeWords) (q : last_regime past ≡ Some (regime_of g))
     (n : List ℕ) (size : length n ≡ length m) (a : AccessWords) (s' : SessionStruct) (n' : List ℕ) (w : AnswerWords) (h : AccessSays s n a s' n' w) where
   abbrev A : Access
   A = access_of a

@@ -3,8 +3,8 @@ use Prim.Native.Nat.{ℕ}
 use mathlib.Core.List.{List}
 use mathlib.Core.Path.{◌≡◌, refl, ap, ◌∙◌}
 use Rattle.vmsa.specs.Words.{regime_of}
-use Rattle.checks.specs.declared.Checked.{Checked}
-use Rattle.checks.specs.declared.Checked.TheVariants.{Accepted, Refused}
+use Rattle.checks.specs.Order.{Checked}
+use Rattle.std.specs.Prelude.{Ok, Err}
 use Rattle.harvest.specs.Harvest.{Harvested}
 use Rattle.tlb.specs.Replies.{Reply, done, reply_to}
 use Rattle.session.specs.declared.Session.{Session as SessionStruct}
@@ -14,7 +14,7 @@ use Rattle.words.specs.declared.AnswerWords.{AnswerWords}
 use Rattle.words.specs.Words.{access_of, refusal_byte, reply_words, replied}
 use Rattle.capi_session.specs.Says.{EmptySays}
 use Rattle.capi_harvest.specs.Says.{SessionHarvestSays}
-use Rattle.calls.specs.Chains.{Event, Leaving, Chain}
+use Rattle.calls.specs.Chains.{Leaving}
 use Rattle.calls.proofs.Rule1.{rule1_leaves}
 use Rattle.calls.proofs.Lists.{rule1_list, map_kept_in}
 use Rattle.rule3.proofs.Final.{rule_3_of}
@@ -47,8 +47,8 @@ module _ (s : SessionStruct) (m : List ℕ) (first count : ℕ) (map : List ℕ)
   map_kept nonzero = ap (λ (y : SessionStruct × Harvested ℕ). y.1.map) h ∙ by x.reply refl
     where
       by : (c : Checked) → x.reply ≡ c → x.map ≡ map
-      by Accepted e = absurd (nonzero (ap (λ (y : SessionStruct × Harvested ℕ). y.1.reply) h ∙ ap (λ (c : Checked). refusal_byte (reply_to c)) e))
-      by (Refused y) e = map_kept_in (regime_held s) first count m map y e
+      by (Ok _) e = absurd (nonzero (ap (λ (y : SessionStruct × Harvested ℕ). y.1.reply) h ∙ ap (λ (c : Checked). refusal_byte (reply_to c)) e))
+      by (Err y) e = map_kept_in (regime_held s) first count m map y e
 
 -- any call of the C functions, by its own contract, leaves what `leaves` says
 pub made_is : {s : SessionStruct} {m : List ℕ} {c : Call} {x : Handed SessionStruct Reply} → MadeC s m c x → x ≡ leaves s m c

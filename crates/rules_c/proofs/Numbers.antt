@@ -2,7 +2,7 @@
 use Prim.Native.Nat.{ℕ}
 use mathlib.Core.Bool.{Bool, true, false}
 use mathlib.Core.List.{List}
-use mathlib.Core.Option.{Option, none, some}
+use Rattle.std.specs.Prelude.{Option, None, Some, Ok, Err}
 use mathlib.Core.Path.{◌≡◌, refl, sym, ap, subst⁻¹, ◌∙◌}
 use lib.ListN.{length}
 use Rattle.descriptor.proofs.Tests.{clash}
@@ -13,10 +13,9 @@ use Rattle.vmsa.specs.declared.Regime.{Regime}
 use Rattle.vmsa.specs.declared.Access.{Access}
 use Rattle.vmsa.specs.declared.Refusal.{Refusal}
 use Rattle.vmsa.specs.declared.Success.{Success}
-use Rattle.checks.specs.declared.Checked.{Checked}
-use Rattle.checks.specs.declared.Checked.TheVariants.{Accepted, Refused}
+use Rattle.checks.specs.Order.{Checked}
 use Rattle.checks.specs.Order.{first_of, memory_rows, setting_rows, store_rows, and_then}
-use Rattle.tlb.specs.Replies.{Reply, done, refused as refused_with, answered, harvested, Told, reply_of, reply_to, harvest_reply, uncounted, dirties}
+use Rattle.tlb.specs.Replies.{Reply, done, refused as refused_with, answered, harvested, reply_of, reply_to, harvest_reply, uncounted, dirties}
 use Rattle.tlb.specs.Ours.{ours}
 use Rattle.session.specs.Model.{Session, set_by, store_by, store_in, set_regime, access, store, call}
 use Rattle.session.proofs.Calls.{access_answer}
@@ -88,16 +87,16 @@ pub set_read : (s : Session) (m : List ℕ) (r : Regime) → number_reply (refus
 set_read s m r = by (and_then (first_of (memory_rows (length m) r)) (first_of (setting_rows r)))
   where
     by : (x : Checked) → number_reply (refusal_byte (set_by ours s m r x).reply) ≡ (set_by ours s m r x).reply
-    by Accepted = refl
-    by (Refused x) = number_in x
+    by (Ok _) = refl
+    by (Err x) = number_in x
 
 store_in_lem : (m : List ℕ) (address value : ℕ) (g : Option Regime) → number_reply (refusal_byte (store_in ours g m address value).reply) ≡ (store_in ours g m address value).reply
-store_in_lem m address value none = refl
-store_in_lem m address value (some r) = by (and_then (first_of (memory_rows (length m) r)) (first_of (store_rows r.pool address)))
+store_in_lem m address value None = refl
+store_in_lem m address value (Some r) = by (and_then (first_of (memory_rows (length m) r)) (first_of (store_rows r.pool address)))
   where
     by : (x : Checked) → number_reply (refusal_byte (store_by ours r m address value x).reply) ≡ (store_by ours r m address value x).reply
-    by Accepted = refl
-    by (Refused x) = number_in x
+    by (Ok _) = refl
+    by (Err x) = number_in x
 
 pub store_read : (s : Session) (m : List ℕ) (address value : ℕ) → number_reply (refusal_byte (call ours s m (store address value)).reply) ≡ (call ours s m (store address value)).reply
 store_read s m address value = store_in_lem m address value s.regime
@@ -105,8 +104,8 @@ store_read s m address value = store_in_lem m address value s.regime
 -- ---- and every reply of a harvest, with its map
 
 pub harvest_read_lem : (x : Checked) (map : List ℕ) → harvest_read (refusal_byte (reply_to x)) map ≡ harvest_reply x map
-harvest_read_lem Accepted map = refl
-harvest_read_lem (Refused x) map = rw (not_zero x)
+harvest_read_lem (Ok _) map = refl
+harvest_read_lem (Err x) map = rw (not_zero x)
 
 -- ---- the count put to 0, and the dirty mark
 

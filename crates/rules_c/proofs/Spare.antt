@@ -1,8 +1,8 @@
 -- Spare numbers have no say, and are 0 in what is returned.
 use Prim.Native.Nat.{ℕ, zero, suc}
 use mathlib.Core.List.{List, [], ◌∷◌, map}
-use mathlib.Core.Option.{Option, none, some}
-use mathlib.Core.Path.{◌≡◌, refl, sym, ap, ap₂, subst, ◌∙◌}
+use Rattle.std.specs.Prelude.{Option, None, Some, Ok, Err}
+use mathlib.Core.Path.{◌≡◌, refl, sym, ap, ap₂, ◌∙◌}
 use native.Mathlib.Nat.{mod-eq_of_lt}
 use lib.ListN.{length, get_or, set as set_at, replicate}
 use Rattle.descriptor.specs.Bits.{pick}
@@ -14,8 +14,7 @@ use Rattle.vmsa.specs.declared.Regime.{Regime}
 use Rattle.vmsa.specs.declared.RegimeWords.{RegimeWords}
 use Rattle.vmsa.specs.declared.Access.{Access}
 use Rattle.vmsa.specs.declared.Leaf.{Leaf}
-use Rattle.checks.specs.declared.Checked.{Checked}
-use Rattle.checks.specs.declared.Checked.TheVariants.{Accepted, Refused}
+use Rattle.checks.specs.Order.{Checked}
 use Rattle.checks.specs.Order.{regime_check, and_then}
 use Rattle.walk.specs.Walk.{walk}
 use Rattle.harvest.specs.Harvest.{Harvested, harvest as harvest_over}
@@ -23,16 +22,15 @@ use Rattle.tlb.specs.declared.Entry.{Entry as EntryStruct}
 use Rattle.tlb.specs.Replies.{Reply, done, refused, answered, harvested, Told, told, harvest_reply}
 use Rattle.tlb.specs.Walker.{entry_count, Walked, access_in}
 use Rattle.tlb.specs.Ours.{ours}
-use Rattle.tlb.specs.Entries.{entry_view, no_entry, regime_in, page_for, kept_entry, accessed_entry}
+use Rattle.tlb.specs.Entries.{entry_view, no_entry, regime_in, page_for, kept_entry, Filling, accessed_entry}
 use Rattle.session.specs.declared.Session.{Session as SessionStruct}
-use Rattle.tlb.proofs.Access.{Low, low_in}
+use Rattle.tlb.proofs.Access.{Low, low_in, accessed_is}
 use Rattle.session.specs.Model.{Session, Handed, handed, Stepped, Call, set_regime, access, store, drop_all, harvest, set_by, store_in, harvest_in, call}
 use Rattle.session.specs.View.{session_view, empty_entries, empty_session, set_to, set_after, number_in, entry_in, with_entries, emptied, emptied_after, harvest_of, session_after, leaves}
 use Rattle.words.specs.declared.AccessWords.{AccessWords}
 use Rattle.words.specs.declared.AnswerWords.{AnswerWords}
 use Rattle.words.specs.Words.{access_of, words_of, walk_words, refusal_byte, reply_words, replied, harvest_numbered, access_spare0}
-use Rattle.capi_walk.specs.Says.{WalkSays}
-use Rattle.capi_session.specs.Says.{EmptySays, SetSays, AccessSays}
+use Rattle.capi_session.specs.Says.{EmptySays}
 use Rattle.calls.specs.Chains.{Event, Chain, none_yet, more}
 use Rattle.rules_c.specs.Code.{MadeC}
 use Rattle.rules_c.specs.Spare.{entry_spare0, session_spare0, SpareOfC}
@@ -57,7 +55,7 @@ accesses_alike : (a b : AccessWords) → access_spare0 a ≡ access_spare0 b →
 accesses_alike a b e = sym (words_of_lem a) ∙ ap access_of e ∙ words_of_lem b
 
 regime_in_lem : (g : RegimeWords) (n : ℕ) → regime_in (regime_spare0 g) n ≡ regime_in g n
-regime_in_lem g n = ap (λ (r : Regime). pick (flag n) (some r) none) (regime_spare g)
+regime_in_lem g n = ap (λ (r : Regime). pick (flag n) (Some r) None) (regime_spare g)
 
 -- ---- what a call leaves of a session
 
@@ -71,19 +69,21 @@ entry_at_lem (e ∷ es) zero = refl
 entry_at_lem (e ∷ es) (suc i) = entry_at_lem es i
 
 kept : (e : EntryStruct) (page : ℕ) (o : Option Leaf) → Low o → kept_entry (entry_spare0 e) page o ≡ entry_spare0 (kept_entry e page o)
-kept e page none h = refl
-kept e page (some leaf) h = rw (mod-eq_of_lt h.1)
+kept e page None h = refl
+kept e page (Some leaf) h = rw (mod-eq_of_lt h.1)
 
 -- what an access gives by its page's entry
 given_spare : (g : RegimeWords) (n : ℕ) (e : EntryStruct) (m : List ℕ) (a : Access)
     → access_in ours (regime_in (regime_spare0 g) n) m a (entry_view (entry_spare0 e)) ≡ access_in ours (regime_in g n) m a (entry_view e)
 given_spare g n e m a = access_spare (regime_in (regime_spare0 g) n) m a e ∙ ap (λ (r : Option Regime). access_in ours r m a (entry_view e)) (regime_in_lem g n)
 
-accessed_entry_lem : (g : RegimeWords) (n : ℕ) (e : EntryStruct) (m : List ℕ) (a : Access) → (accessed_entry (regime_spare0 g) n (entry_spare0 e) m a).entry ≡ entry_spare0 (accessed_entry g n e m a).entry
+accessed_entry_lem : (g : RegimeWords) (n : ℕ) (e : EntryStruct) (m : List ℕ) (a : Access) → (accessed_entry (regime_in (regime_spare0 g) n) (entry_spare0 e) m a).entry ≡ entry_spare0 (accessed_entry (regime_in g n) e m a).entry
 unfolding regime_of
 accessed_entry_lem g n e m a =
-    ap (λ (w : Walked). kept_entry (entry_spare0 e) (page_for (regime_of g) a) w.kept) (given_spare g n e m a)
+    ap (λ (x : Filling Reply). x.entry) (accessed_is (regime_spare0 g) n (entry_spare0 e) m a)
+    ∙ ap (λ (w : Walked). kept_entry (entry_spare0 e) (page_for (regime_of g) a) w.kept) (given_spare g n e m a)
     ∙ kept e (page_for (regime_of g) a) (access_in ours (regime_in g n) m a (entry_view e)).kept (low_in (regime_in g n) m a (entry_view e))
+    ∙ ap (λ (x : Filling Reply). entry_spare0 x.entry) (sym (accessed_is g n e m a))
 
 -- sessions alike in all but their entries
 with_entries_lem : (s : SessionStruct) (es fs : List EntryStruct) → es ≡ map entry_spare0 fs → with_entries (session_spare0 s) es ≡ session_spare0 (with_entries s fs)
@@ -104,21 +104,21 @@ unfolding regime_of
 after s m (set_regime r) = by (regime_check (length m) r)
   where
     by : (x : Checked) → set_after (session_spare0 s) r x ≡ session_spare0 (set_after s r x)
-    by Accepted = set_to_lem r
-    by (Refused x) = refl
+    by (Ok _) = set_to_lem r
+    by (Err x) = refl
 after s m (access a) =
-    with_entries_lem s _ (set_at s.entries (number_in s a) (accessed_entry s.regime s.set (entry_in s a) m a).entry)
-    (ap (λ (e : EntryStruct). set_at (map entry_spare0 s.entries) (number_in s a) (accessed_entry (regime_spare0 s.regime) s.set e m a).entry) (entry_at_lem s.entries (number_in s a))
+    with_entries_lem s _ (set_at s.entries (number_in s a) (accessed_entry (regime_in s.regime s.set) (entry_in s a) m a).entry)
+    (ap (λ (e : EntryStruct). set_at (map entry_spare0 s.entries) (number_in s a) (accessed_entry (regime_in (regime_spare0 s.regime) s.set) e m a).entry) (entry_at_lem s.entries (number_in s a))
     ∙ ap (set_at (map entry_spare0 s.entries) (number_in s a)) (accessed_entry_lem s.regime s.set (entry_in s a) m a)
-    ∙ sym (map_set entry_spare0 s.entries (number_in s a) (accessed_entry s.regime s.set (entry_in s a) m a).entry))
+    ∙ sym (map_set entry_spare0 s.entries (number_in s a) (accessed_entry (regime_in s.regime s.set) (entry_in s a) m a).entry))
 after s m (store address value) = refl
 after s m drop_all = emptied_spare s
 after s m (harvest first count pages) =
     ap (λ (g : Option Regime). emptied_after (session_spare0 s) (harvest_in ours g first count m pages).reply) (regime_in_lem s.regime s.set) ∙ by (harvest_of s first count m pages).reply
   where
     by : (x : Checked) → emptied_after (session_spare0 s) x ≡ session_spare0 (emptied_after s x)
-    by Accepted = emptied_spare s
-    by (Refused x) = refl
+    by (Ok _) = emptied_spare s
+    by (Err x) = refl
 
 -- in all that a call leaves: of the session, with its spare numbers put to 0; of memory and reply, the same
 abbrev spareless : Handed SessionStruct Reply → Handed SessionStruct Reply
@@ -133,8 +133,8 @@ unfolding regime_of
 told_spare s m (set_regime r) = by (and_then (ours.memory_check r (length m)) (ours.setting_check r))
   where
     by : (x : Checked) → ◌≡◌ {A = Told Reply} (told (set_by ours (session_view (session_spare0 s)) m r x).reply (set_by ours (session_view (session_spare0 s)) m r x).memory) (told (set_by ours (session_view s) m r x).reply (set_by ours (session_view s) m r x).memory)
-    by Accepted = refl
-    by (Refused x) = refl
+    by (Ok _) = refl
+    by (Err x) = refl
 told_spare s m (access a) =
     ap (λ (y : Stepped). told y.reply y.memory) (sym (access_is (session_spare0 s) m a))
     ∙ ap (λ (e : EntryStruct). let w = access_in ours (regime_in (regime_spare0 s.regime) s.set) m a (entry_view e) in told w.reply w.memory) (entry_at_lem s.entries (number_in s a))

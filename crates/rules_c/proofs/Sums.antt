@@ -2,7 +2,7 @@
 use Prim.Native.Nat.{ℕ, ◌/◌, ◌%◌}
 use mathlib.Core.Bool.{Bool, true, false, ◌&&◌}
 use mathlib.Core.List.{List}
-use mathlib.Core.Option.{Option, none, some}
+use Rattle.std.specs.Prelude.{Option, None, Some, Ok, Err}
 use mathlib.Core.Path.{◌≡◌, refl, sym, ap, ◌∙◌}
 use native.Mathlib.Omega.{arith}
 use lib.Dec.{leb, eqb}
@@ -15,8 +15,7 @@ use Rattle.vmsa.specs.declared.Access.{Access}
 use Rattle.vmsa.specs.declared.Leaf.{Leaf}
 use Rattle.vmsa.specs.declared.FaultKind.{FaultKind}
 use Rattle.vmsa.specs.declared.FaultKind.TheVariants.{AccessFlag, Permission, Alignment}
-use Rattle.checks.specs.declared.Checked.{Checked}
-use Rattle.checks.specs.declared.Checked.TheVariants.{Accepted, Refused}
+use Rattle.checks.specs.Order.{Checked}
 use Rattle.permission.specs.Permission.{attribute_of, writable, clean, user, uxn, pxn, flag_fails, alignment_fails, permission_fails}
 use Rattle.permission.proofs.Effective.{permission_same}
 use Rattle.decision.specs.Decision.{flag_due, dirty_due, cacheable, output_of, failing, passing}
@@ -102,14 +101,14 @@ module _ (r : Regime) (a : Access) (l : Leaf) where
 -- ---- an access by an entry
 
 lows : Option Leaf → Option Leaf
-lows none = none
-lows (some l) = some (low l)
+lows None = None
+lows (Some l) = Some (low l)
 
 held_spare : (e : EntryStruct) (page : ℕ) → held_in (entry_view (entry_spare0 e)) page ≡ lows (held_in (entry_view e) page)
 unfolding lows
 held_spare e page = by (flag e.held && leb e.left 3)
   where
-    same : (b : Bool) → pick b (some (low (record { value = e.value; left = e.left; tables = e.tables }))) none ≡ lows (pick b (some (record { value = e.value; left = e.left; tables = e.tables })) none)
+    same : (b : Bool) → pick b (Some (low (record { value = e.value; left = e.left; tables = e.tables }))) None ≡ lows (pick b (Some (record { value = e.value; left = e.left; tables = e.tables })) None)
     same true = refl
     same false = refl
 
@@ -119,12 +118,12 @@ held_spare e page = by (flag e.held && leb e.left 3)
 
 access_low : (r : Regime) (m : List ℕ) (a : Access) (h : Option Leaf) (c : Checked) → access_by ours r m a (lows h) c ≡ access_by ours r m a h c
 unfolding lows
-access_low r m a none c = refl
-access_low r m a (some l) Accepted = ap (recall ours r m a) (judged_low r a l)
-access_low r m a (some l) (Refused x) = refl
+access_low r m a None c = refl
+access_low r m a (Some l) (Ok _) = ap (recall ours r m a) (judged_low r a l)
+access_low r m a (Some l) (Err x) = refl
 
 pub access_spare : (g : Option Regime) (m : List ℕ) (a : Access) (e : EntryStruct) → access_in ours g m a (entry_view (entry_spare0 e)) ≡ access_in ours g m a (entry_view e)
-access_spare none m a e = refl
-access_spare (some r) m a e =
+access_spare None m a e = refl
+access_spare (Some r) m a e =
     let c = and_then (ours.memory_check r (length m)) (ours.access_check r a) in
     ap (λ (h : Option Leaf). access_by ours r m a h c) (held_spare e (ours.page r a)) ∙ access_low r m a (held_in (entry_view e) (ours.page r a)) c

@@ -1,15 +1,15 @@
 -- Rules 1 and 2 of vmsa_walk.
-use Prim.Native.Nat.{ℕ, ◌+◌, ◌<◌, ◌≤◌}
+use Prim.Native.Nat.{ℕ, ◌≤◌}
 use mathlib.Core.List.{List}
 use mathlib.Core.Logic.{◌≢◌}
 use mathlib.Core.Path.{◌≡◌, refl, sym, ap, subst⁻¹, ◌∙◌}
 use lib.ListN.{length}
-use Rattle.vmsa.specs.Answers.{Result, success, fault, refused, Faulted}
+use Rattle.vmsa.specs.Answers.{Result, success, fault, refused}
 use Rattle.vmsa.specs.Words.{regime_of}
 use Rattle.vmsa.specs.declared.Regime.{Regime}
 use Rattle.vmsa.specs.declared.RegimeWords.{RegimeWords}
 use Rattle.vmsa.specs.declared.Access.{Access}
-use Rattle.checks.specs.declared.Checked.TheVariants.{Accepted}
+use Rattle.std.specs.Prelude.{Ok}
 use Rattle.checks.specs.Order.{walk_check}
 use Rattle.walk.specs.Walk.{Outcome, walk, pool_bytes}
 use Rattle.rules.specs.Orders.{other_order, swapped_pool}
@@ -44,7 +44,7 @@ module _ (m : List ℕ) (g : RegimeWords) (a : AccessWords) where
   unrefused t k e = t (is_refused x k e).0
 
   -- one that is not refused was accepted
-  accepted : w.tag ≢ 2 → walk_check (length m) R A ≡ Accepted
+  accepted : w.tag ≢ 2 → walk_check (length m) R A ≡ Ok tt
   accepted t = (rule1.accepted R A m).1 (unrefused t)
 
   reads_of : (y : Result) → x ≡ y → (words_of y).tag ≢ 2 → ((words_of y).reads ≡ length (trace_of R A m).visited) × ((words_of y).reads ≤ 4)

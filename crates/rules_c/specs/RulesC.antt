@@ -1,6 +1,5 @@
 -- Rules 1 to 3 (RULES 13) in what C passes and gets.
-use Rattle.std.specs.Prelude.{ℕ, ◌+◌, ◌<◌, ◌≤◌, Bool, true, false, List, ◌⊎◌, ◌↔◌, ◌≢◌, ◌≡◌, length, get_or}
-use Rattle.std.proofs.Math.Option.{Option, none, some}
+use Rattle.std.specs.Prelude.{ℕ, ◌+◌, ◌<◌, ◌≤◌, Bool, true, false, List, ◌⊎◌, ◌↔◌, ◌≢◌, ◌≡◌, length, get_or, Option, None, Some}
 use Rattle.descriptor.specs.Bytes.{Bytes, desc}
 use Rattle.descriptor.specs.Bits.{bit}
 use Rattle.geometry.specs.Geometry.{level_of, output_limit}
@@ -131,9 +130,9 @@ module _ (past : List Event) (m : List ℕ) (g : RegimeWords) (n : List ℕ) (a 
     -- settled, and over the memory as it was left: what vmsa_walk gives, each number but the count of reads, and leaves
     pub settles : settled past ≡ true → n ≡ m → (x : AnswerWords) (l : List ℕ) → WalkSays n g a l x → (counted_words 0 w ≡ counted_words 0 x) × (n' ≡ l)
     -- over any bytes of the same length, settled or not: of that page, of another, or none
-    pub held : (t : Moment) → Last any_count ≡ some t → t.page ≡ page_for (regime_of g) (access_of a) → (u : Moment) × (Last counted ≡ some u) × Recalls u
-    pub other : (t : Moment) → Last any_count ≡ some t → t.page ≢ page_for (regime_of g) (access_of a) → Walks
-    pub unheld : Last any_count ≡ none → Walks
+    pub held : (t : Moment) → Last any_count ≡ Some t → t.page ≡ page_for (regime_of g) (access_of a) → (u : Moment) × (Last counted ≡ Some u) × Recalls u
+    pub other : (t : Moment) → Last any_count ≡ Some t → t.page ≢ page_for (regime_of g) (access_of a) → Walks
+    pub unheld : Last any_count ≡ None → Walks
     -- vmsa_walk of a read, fetch or probe never makes a dirty mark: for them `held` gives the one answer, and no byte changes
     pub quiet : writes (access_of a).kind ≡ false → (h : RegimeWords) (k : List ℕ) (x : AnswerWords) (l : List ℕ) → WalkSays k h a l x → x.dirtied ≡ 0
 
@@ -141,10 +140,10 @@ module _ (past : List Event) (m : List ℕ) (g : RegimeWords) (n : List ℕ) (a 
 -- any accepted regime it is refused with 9, and after one it keeps the rules above, over any bytes of the same length
 abbrev pub EarlyOfC : Type 0
 EarlyOfC = (s₀ : SessionStruct) → EmptySays s₀ → (m₀ : List ℕ) → Bytes m₀ → (s : SessionStruct) (m : List ℕ) (past : List Event) → Chain MadeC s₀ m₀ s m past
-    → last_regime past ≡ none → (n : List ℕ) (a : AccessWords) (s' : SessionStruct) (n' : List ℕ) (w : AnswerWords) → AccessSays s n a s' n' w
+    → last_regime past ≡ None → (n : List ℕ) (a : AccessWords) (s' : SessionStruct) (n' : List ℕ) (w : AnswerWords) → AccessSays s n a s' n' w
     → (w.tag ≡ 2) × (w.refusal ≡ no_regime) × (s' ≡ s) × (n' ≡ n)
 
 abbrev pub AccessOfC : Type 0
 AccessOfC = (s₀ : SessionStruct) → EmptySays s₀ → (m₀ : List ℕ) → Bytes m₀ → (s : SessionStruct) (m : List ℕ) (past : List Event) → Chain MadeC s₀ m₀ s m past
-    → (g : RegimeWords) → last_regime past ≡ some (regime_of g) → (n : List ℕ) → length n ≡ length m
+    → (g : RegimeWords) → last_regime past ≡ Some (regime_of g) → (n : List ℕ) → length n ≡ length m
     → (a : AccessWords) (s' : SessionStruct) (n' : List ℕ) (w : AnswerWords) → AccessSays s n a s' n' w → AccessRules past m g n a n' w

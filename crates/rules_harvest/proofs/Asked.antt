@@ -14,8 +14,8 @@ use Rattle.vmsa.specs.Granules.{page_bits_of, Paged}
 use Rattle.geometry.specs.Geometry.{page_size}
 use Rattle.geometry.proofs.Geometry.{paged}
 use Rattle.vmsa.specs.declared.Regime.{Regime}
-use Rattle.checks.specs.declared.Checked.{Checked}
-use Rattle.checks.specs.declared.Checked.TheVariants.{Accepted}
+use Rattle.checks.specs.Order.{Checked}
+use Rattle.std.specs.Prelude.{Ok}
 use Rattle.checks.specs.Order.{and_then, regime_check, asked_check, harvest_check}
 use Rattle.checks.proofs.Accept.{asked_accepted}
 use Rattle.checks.proofs.Rows.{harvest_apart}
@@ -128,13 +128,13 @@ module _ (r : Regime) (first count bytes : ℕ) (z : Sized r) (h : Askable r fir
   unfolding map_length_bad
   map_good = le-ltb bytes (bytes_for count) (let s : bytes_for count ≤ bytes = omega (arith, h.room) in s)
 
-  pub asked_good : asked_check r first count bytes ≡ Accepted
+  pub asked_good : asked_check r first count bytes ≡ Ok tt
   unfolding asked_check
   asked_good = rw (pages_good, map_good)
 
 -- ---- both ways
 
-pub good_asked : (r : Regime) (first count bytes : ℕ) → Sized r → asked_check r first count bytes ≡ Accepted → Askable r first count bytes
+pub good_asked : (r : Regime) (first count bytes : ℕ) → Sized r → asked_check r first count bytes ≡ Ok tt → Askable r first count bytes
 good_asked r first count bytes z e =
     let a = asked_accepted r first count bytes e in
     let pl = placed r first count z a.0 in
@@ -148,5 +148,5 @@ good_asked r first count bytes z e =
       room = omega (arith, a.1);
     }
 
-pub check_asked : (n : ℕ) (r : Regime) (first count bytes : ℕ) → regime_check n r ≡ Accepted → harvest_check n r first count bytes ≡ asked_check r first count bytes
+pub check_asked : (n : ℕ) (r : Regime) (first count bytes : ℕ) → regime_check n r ≡ Ok tt → harvest_check n r first count bytes ≡ asked_check r first count bytes
 check_asked n r first count bytes e = harvest_apart n r first count bytes ∙ ap (λ (c : Checked). and_then c (asked_check r first count bytes)) e

@@ -14,7 +14,7 @@ use Rattle.vmsa.specs.Fields.{set_ap2}
 use Rattle.vmsa.specs.Granules.{page_bits_of}
 use Rattle.vmsa.specs.declared.Regime.{Regime}
 use Rattle.vmsa.specs.declared.Leaf.{Leaf}
-use Rattle.checks.specs.declared.Checked.TheVariants.{Accepted}
+use Rattle.std.specs.Prelude.{Ok}
 use Rattle.lookup.specs.Trace.{End, fault, leaf}
 use Rattle.lookup.proofs.Readers.{AlikeEnds, faults, leaves}
 use Rattle.walk.specs.Walk.{pool_bytes}
@@ -51,7 +51,7 @@ page_dirty : (r : Regime) (m : List ℕ) (page : ℕ) → Dirty r m page → dir
 page_dirty r m page d = ap dirty_end d.0.reaches ∙ said d.0.value d.1
 
 -- a bit of the map
-bit_is : (r : Regime) (first count : ℕ) (m map : List ℕ) → (harvest r first count m map).reply ≡ Accepted → (n : ℕ) → n < count
+bit_is : (r : Regime) (first count : ℕ) (m map : List ℕ) → (harvest r first count m map).reply ≡ Ok tt → (n : ℕ) → n < count
     → map_bit (harvest r first count m map).map n ≡ dirty_end (reached r (pool_bytes r.pool m) (first + n))
 unfolding reports
 bit_is r first count m map e n h =

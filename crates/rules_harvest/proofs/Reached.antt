@@ -17,7 +17,7 @@ use Rattle.geometry.specs.Geometry.{page_size}
 use Rattle.vmsa.specs.declared.Regime.{Regime}
 use Rattle.vmsa.specs.declared.Leaf.{Leaf}
 use Rattle.checks.proofs.Accept.{Settled}
-use Rattle.lookup.specs.declared.Word.TheVariants.{Value, Unreachable}
+use Rattle.std.specs.Prelude.{Some, None}
 use Rattle.lookup.specs.Trace.{End, fault, leaf}
 use Rattle.lookup.specs.Steps.{fetched, pool_reader, context_of}
 use Rattle.lookup.proofs.Reach.{context_paged}
@@ -67,7 +67,7 @@ again_tables : (v w : ℕ) → Again v w → table_bits w ≡ table_bits v
 unfolding table_bits
 again_tables v w k = again_split v w k (ap table_bits) (λ _ e. ap table_bits e ∙ ap (λ (x : ℕ). x % 2 ^ 4) (set_above 7 v 59 (lit< tt)))
 
-opened : (ee : Bool) (p q : List ℕ) (base a : ℕ) → length q ≡ length p → fetched ee q base a ≡ pick (leb base a && leb (a + 8) (base + length p)) (Value (desc ee q (a - base))) Unreachable
+opened : (ee : Bool) (p q : List ℕ) (base a : ℕ) → length q ≡ length p → fetched ee q base a ≡ pick (leb base a && leb (a + 8) (base + length p)) (Some (desc ee q (a - base))) None
 unfolding fetched
 opened ee p q base a e = rw e
 
@@ -75,7 +75,7 @@ words : (ee : Bool) (p q : List ℕ) (base : ℕ) → base % 8 ≡ 0 → Cleaned
 words ee p q base b8 c a a8 = rw (opened ee p p base a refl, opened ee p q base a c.long) (by (leb base a && leb (a + 8) (base + length p)) refl)
   where
     by : (b : Bool) → (leb base a && leb (a + 8) (base + length p)) ≡ b
-        → AlikeWords Again (pick b (Value (desc ee p (a - base))) Unreachable) (pick b (Value (desc ee q (a - base))) Unreachable)
+        → AlikeWords Again (pick b (Some (desc ee p (a - base))) None) (pick b (Some (desc ee q (a - base))) None)
     by false e = unreachable
     by true e =
         let t = and_true (leb base a) (leb (a + 8) (base + length p)) e in

@@ -6,8 +6,8 @@ use native.Mathlib.Omega.{arith}
 use lib.ListN.{length, get_or}
 use Rattle.descriptor.specs.Bytes.{Bytes}
 use Rattle.vmsa.specs.declared.Regime.{Regime}
-use Rattle.checks.specs.declared.Checked.{Checked}
-use Rattle.checks.specs.declared.Checked.TheVariants.{Accepted, Refused}
+use Rattle.checks.specs.Order.{Checked}
+use Rattle.std.specs.Prelude.{Ok, Err}
 use Rattle.checks.specs.Order.{regime_check, asked_check, harvest_rows, harvest_check}
 use Rattle.checks.proofs.Accept.{settled}
 use Rattle.walk.specs.Walk.{pool_bytes}
@@ -32,7 +32,7 @@ module _ (r : Regime) (first count : ℕ) (m map : List ℕ) where
   row_refuses k w = (w.0, reply_check r first count m map ∙ first_refuses w.1, w.2)
 
   -- accepted for what may be asked for
-  as_asked : regime_check (length m) r ≡ Accepted → (harvest r first count m map).reply ≡ asked_check r first count (length map)
+  as_asked : regime_check (length m) r ≡ Ok tt → (harvest r first count m map).reply ≡ asked_check r first count (length map)
   as_asked e = reply_check r first count m map ∙ check_asked (length m) r first count (length map) e
 
   -- what holds of the map as it was, and as an accepted harvest fills it
@@ -40,8 +40,8 @@ module _ (r : Regime) (first count : ℕ) (m map : List ℕ) where
   map_either P p q = by (harvest r first count m map).reply refl
     where
       by : (c : Checked) → (harvest r first count m map).reply ≡ c → P (harvest r first count m map).map
-      by Accepted e = q (taken r first count m map e)
-      by (Refused x) e = subst P (sym (map_kept r first count m map x e)) p
+      by (Ok _) e = q (taken r first count m map e)
+      by (Err x) e = subst P (sym (map_kept r first count m map x e)) p
 
   map_long : length (harvest r first count m map).map ≡ length map
   map_long = map_either (λ (l : List ℕ). length l ≡ length map) refl (λ t. rw t.map_is (mapped_length (reports r (pool_bytes r.pool m) first) count map t.room))
@@ -58,10 +58,10 @@ module _ (r : Regime) (first count : ℕ) (m map : List ℕ) where
     same_memory = by (harvest r first count m map).reply refl
       where
         by : (c : Checked) → (harvest r first count m map).reply ≡ c → (harvest r first count m map).memory ≡ (harvest r first count m other).memory
-        by Accepted q = (taken r first count m map q).memory ∙ sym (taken r first count m other (sym same_reply ∙ q)).memory
-        by (Refused x) q = harvest_kept r first count m map x q ∙ sym (harvest_kept r first count m other x (sym same_reply ∙ q))
+        by (Ok _) q = (taken r first count m map q).memory ∙ sym (taken r first count m other (sym same_reply ∙ q)).memory
+        by (Err x) q = harvest_kept r first count m map x q ∙ sym (harvest_kept r first count m other x (sym same_reply ∙ q))
 
-    same_filled : (harvest r first count m map).reply ≡ Accepted → (j : ℕ) → j ≤ final_byte count
+    same_filled : (harvest r first count m map).reply ≡ Ok tt → (j : ℕ) → j ≤ final_byte count
         → get_or (harvest r first count m map).map j 0 ≡ get_or (harvest r first count m other).map j 0
     same_filled q j h =
         ap (λ (l : List ℕ). get_or l j 0) (taken r first count m map q).map_is

@@ -5,7 +5,6 @@ use mathlib.Core.Path.{◌≡◌, refl, sym, ap, subst, ◌∙◌}
 use native.Mathlib.Nat.{div-mul-le_self, mul-le-mul_left, mul_comm}
 use native.Mathlib.Omega.{arith}
 use lib.Dec.{eqb}
-use lib.Pow.{shr-shr, field}
 use Rattle.descriptor.specs.Bits.{pick}
 use Rattle.descriptor.proofs.Tests.{clash}
 use Rattle.vmsa.specs.Limits.{tsz_most, Sized}
@@ -18,12 +17,10 @@ use Rattle.vmsa.specs.declared.Range.{Range}
 use Rattle.vmsa.specs.declared.Leaf.{Leaf}
 use Rattle.vmsa.specs.declared.PhysAddr.{PhysAddr}
 use Rattle.vmsa.specs.declared.FaultKind.TheVariants.{ExternalAbort}
-use Rattle.lookup.specs.declared.Word.{Word}
-use Rattle.lookup.specs.declared.Word.TheVariants.{Value, Unreachable}
+use Rattle.std.specs.Prelude.{Option, Some, None, Err, Ok}
 use Rattle.lookup.specs.declared.Next.{Next}
 use Rattle.lookup.specs.declared.Next.TheVariants as next
-use Rattle.lookup.specs.declared.First.{First}
-use Rattle.lookup.specs.declared.First.TheVariants as firsts
+use Rattle.lookup.specs.Steps.{First}
 use Rattle.lookup.specs.declared.Context.{Context}
 use Rattle.lookup.specs.Trace.{End, fault, leaf, Trace, ended, end_under_hpd}
 use Rattle.lookup.specs.Steps.{decoded, context, onward, on_word, followed, entry_at, entered, descend, upper, range_of, outside, context_of, first_table, locate}
@@ -47,7 +44,7 @@ span_fits p t left g most h =
 
 -- ---- any number of levels, over two inputs
 
-module _ (base limit : PhysAddr) (p i j : ℕ) (read : ℕ → Word) where
+module _ (base limit : PhysAddr) (p i j : ℕ) (read : ℕ → Option ℕ) where
   abbrev of : ℕ → Context
   of x = context base limit (record { 0 = x }) p
 
@@ -60,11 +57,11 @@ module _ (base limit : PhysAddr) (p i j : ℕ) (read : ℕ → Word) where
   onward_follows f g h sum left at v (next.Table table) = h (with_table sum v) table.0
   onward_follows f g h sum left at v next.Leaf = λ a l e s. refl
 
-  word_follows : (f g : ℕ → ℕ → Trace) → ((s t : ℕ) → Follows (f s t) (g s t)) → (sum left at : ℕ) (w : Word)
+  word_follows : (f g : ℕ → ℕ → Trace) → ((s t : ℕ) → Follows (f s t) (g s t)) → (sum left at : ℕ) (w : Option ℕ)
       → Follows (on_word (ended (fault ExternalAbort (level_of left))) (followed (of i) f sum left at) w) (on_word (ended (fault ExternalAbort (level_of left))) (followed (of j) g sum left at) w)
   unfolding followed
-  word_follows f g h sum left at (Value v) = onward_follows f g h sum left at v (decoded p limit.0 left v)
-  word_follows f g h sum left at Unreachable = λ a l e s. refl
+  word_follows f g h sum left at (Some v) = onward_follows f g h sum left at v (decoded p limit.0 left v)
+  word_follows f g h sum left at None = λ a l e s. refl
 
   entry_same : (left table : ℕ) → i / span p left ≡ j / span p left → entry_at (of j) left table ≡ entry_at (of i) left table
   unfolding entry_at
@@ -89,15 +86,15 @@ hpd_leaf hpd (leaf b k) a l q =
     let y : record { value = k.value; left = k.left; tables = pick hpd no_tables k.tables } ≡ l = cc in
     (k, ap (λ (c : ℕ). leaf c k) x, ap (λ (m : Leaf). m.left) y)
 
-module _ (r : Regime) (read : ℕ → Word) where
+module _ (r : Regime) (read : ℕ → Option ℕ) where
   -- the levels of address x in a range, from its root on
   unfoldable deep : Range → PhysAddr → ℕ → End
   deep g root x =
       (descend (context r.pool.address (record { 0 = output_limit r.output }) (record { 0 = x % 2 ^ (64 - g.tsz) }) (page_bits_of r)) read (suc (first_left (page_bits_of r) g.tsz)) no_tables root.0).end
 
-  locate_deep : (x : ℕ) (g : Range) → range_of r x ≡ g → (root : PhysAddr) → first_table r x ≡ firsts.Table root → (locate r read x).end ≡ end_under_hpd g.hpd (deep g root x)
+  locate_deep : (x : ℕ) (g : Range) → range_of r x ≡ g → (root : PhysAddr) → first_table r x ≡ Ok root → (locate r read x).end ≡ end_under_hpd g.hpd (deep g root x)
   unfolding context_of deep
-  locate_deep x g e root q = ap (λ (t : Trace). t.end) (locate_first r read x (firsts.Table root) q) ∙ ap (λ (h : Range). end_under_hpd h.hpd (deep h root x)) e
+  locate_deep x g e root q = ap (λ (t : Trace). t.end) (locate_first r read x (Ok root) q) ∙ ap (λ (h : Range). end_under_hpd h.hpd (deep h root x)) e
 
 module _ (r : Regime) (z : Sized r) (a b : ℕ) where
   abbrev p : ℕ
@@ -132,13 +129,13 @@ module _ (r : Regime) (z : Sized r) (a b : ℕ) where
     unfolding first_table
     first_same = rw (range_same, outside_same)
 
-  pub span_shares : (read : ℕ → Word) (at : ℕ) (l : Leaf) → (locate r read a).end ≡ leaf at l → a / span p l.left ≡ b / span p l.left → (locate r read b).end ≡ (locate r read a).end
+  pub span_shares : (read : ℕ → Option ℕ) (at : ℕ) (l : Leaf) → (locate r read a).end ≡ leaf at l → a / span p l.left ≡ b / span p l.left → (locate r read b).end ≡ (locate r read a).end
   unfolding span deep
   span_shares read at l e same = by (first_table r a) refl
     where
       by : (f : First) → first_table r a ≡ f → (locate r read b).end ≡ (locate r read a).end
-      by (firsts.Fault kind) q = clash (let w : fault kind 0 ≡ leaf at l = sym (ap (λ (t : Trace). t.end) (locate_first r read a (firsts.Fault kind) q)) ∙ e in cc)
-      by (firsts.Table root) q =
+      by (Err kind) q = clash (let w : fault kind 0 ≡ leaf at l = sym (ap (λ (t : Trace). t.end) (locate_first r read a (Err kind) q)) ∙ e in cc)
+      by (Ok root) q =
           let t = (range_of r a).tsz in
           let base = r.pool.address in
           let limit : PhysAddr = record { 0 = output_limit r.output } in

@@ -1,5 +1,5 @@
 -- What an accepted harvest leaves, and on what it can rely; and what a refused one was refused by.
-use Prim.Native.Nat.{ℕ, zero, suc, ◌+◌, ◌<◌, ◌≤◌}
+use Prim.Native.Nat.{ℕ, ◌+◌, ◌<◌, ◌≤◌}
 use mathlib.Core.Bool.{Bool}
 use mathlib.Core.List.{List}
 use mathlib.Core.Path.{◌≡◌, refl, sym, ap, ◌∙◌}
@@ -7,8 +7,8 @@ use lib.ListN.{length, get_or, drop, get_or-append}
 use Rattle.descriptor.specs.Bytes.{Bytes}
 use Rattle.descriptor.proofs.Numbers.{bytes_take, bytes_drop}
 use Rattle.vmsa.specs.declared.Regime.{Regime}
-use Rattle.checks.specs.declared.Checked.{Checked}
-use Rattle.checks.specs.declared.Checked.TheVariants.{Accepted, Refused}
+use Rattle.checks.specs.Order.{Checked}
+use Rattle.std.specs.Prelude.{Ok, Err}
 use Rattle.checks.specs.Order.{harvest_check}
 use Rattle.checks.proofs.Accept.{Settled, settled, harvest_accepted, asked_accepted}
 use Rattle.walk.specs.Walk.{pool_bytes, with_pool_bytes}
@@ -25,8 +25,8 @@ unfolding harvest
 reply_check r first count m map = by (harvest_check (length m) r first count (length map))
   where
     by : (c : Checked) → (harvest_by r first count m map c).reply ≡ c
-    by Accepted = refl
-    by (Refused x) = refl
+    by (Ok _) = refl
+    by (Err x) = refl
 
 -- ---- an accepted harvest
 
@@ -37,10 +37,10 @@ pub record Taken (r : Regime) (first count : ℕ) (m map : List ℕ) : Type 0 wh
   pub memory : (harvest r first count m map).memory ≡ with_pool_bytes r.pool m (clean_pool r first count (pool_bytes r.pool m))
   pub map_is : (harvest r first count m map).map ≡ mapped (reports r (pool_bytes r.pool m) first) count map
 
-pub taken : (r : Regime) (first count : ℕ) (m map : List ℕ) → (harvest r first count m map).reply ≡ Accepted → Taken r first count m map
+pub taken : (r : Regime) (first count : ℕ) (m map : List ℕ) → (harvest r first count m map).reply ≡ Ok tt → Taken r first count m map
 unfolding harvest
 taken r first count m map e =
-    let c : harvest_check (length m) r first count (length map) ≡ Accepted = sym (reply_check r first count m map) ∙ e in
+    let c : harvest_check (length m) r first count (length map) ≡ Ok tt = sym (reply_check r first count m map) ∙ e in
     let h = harvest_accepted (length m) r first count (length map) c in
     record {
       settled = settled (length m) r h.0;

@@ -5,8 +5,8 @@ use borrow.Author.Tests.{eqb-false}
 use Rattle.vmsa.specs.Answers.{number_of}
 use Rattle.vmsa.specs.Words.{regime_of}
 use Rattle.vmsa.specs.declared.Refusal.{Refusal}
-use Rattle.checks.specs.declared.Checked.{Checked}
-use Rattle.checks.specs.declared.Checked.TheVariants.{Accepted, Refused}
+use Rattle.checks.specs.Order.{Checked}
+use Rattle.std.specs.Prelude.{Ok, Err}
 use Rattle.tlb.specs.Replies.{reply_to}
 use Rattle.harvest.specs.Harvest.{Harvested, harvest}
 use Rattle.words.specs.Words.{refusal_byte}
@@ -28,13 +28,13 @@ number_not_zero x = eqb-false (number_of x) 0 (not_zero x)
 abbrev number_for : Checked → ℕ
 number_for c = refusal_byte (reply_to c)
 
-zero_accepted : (c : Checked) → number_for c ≡ 0 → c ≡ Accepted
-zero_accepted Accepted e = refl
-zero_accepted (Refused x) e = absurd (number_not_zero x e)
+zero_accepted : (c : Checked) → number_for c ≡ 0 → c ≡ Ok tt
+zero_accepted (Ok _) e = refl
+zero_accepted (Err x) e = absurd (number_not_zero x e)
 
 number_refused : (c : Checked) (k : ℕ) → number_for c ≡ k → (k ≡ 0 → ⊥) → RefusedWith k c
-number_refused Accepted k e z = absurd (z (sym e))
-number_refused (Refused x) k e z = (x, refl, e)
+number_refused (Ok _) k e z = absurd (z (sym e))
+number_refused (Err x) k e z = (x, refl, e)
 
 refused_number : (c : Checked) (k : ℕ) → RefusedWith k c → (number_for c ≡ k) × (k ≡ 0 → ⊥)
 refused_number c k w = (ap number_for w.1 ∙ w.2, λ z. number_not_zero w.0 (w.2 ∙ z))

@@ -7,9 +7,8 @@ use native.Mathlib.Omega.{arith}
 use lib.Dec.{leb}
 use borrow.Author.Tests.{le-leb, leb-true}
 use Rattle.descriptor.proofs.Tests.{and_true}
-use Rattle.geometry.specs.Geometry.{stride_bits}
 use Rattle.vmsa.specs.Fields.{af, ap2, dbm}
-use Rattle.gather.specs.Ends.{dirty, pages_in}
+use Rattle.gather.specs.Ends.{dirty}
 use Rattle.clean.specs.Clean.{whole_in}
 use Rattle.rules_harvest.specs.Leaves.{SaysDirty, AskedFor}
 

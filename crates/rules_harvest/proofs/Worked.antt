@@ -20,8 +20,8 @@ use Rattle.vmsa.specs.declared.Granule.TheVariants.{Kib16, Kib64}
 use Rattle.vmsa.specs.declared.Regime.{Regime}
 use Rattle.vmsa.specs.declared.Refusal.TheVariants.{PageRange, MapLength, DirtyState}
 use Rattle.refusals.specs.Tests.{memory_pool_bad, pool_address_bad, tsz_bad, sizes_bad, root_bad, roots_bad, attribute_bad, attributes_bad, dirty_state_bad, in_range0, in_range1, page_range_bad, map_length_bad}
-use Rattle.checks.specs.declared.Checked.{Checked}
-use Rattle.checks.specs.declared.Checked.TheVariants.{Accepted, Refused}
+use Rattle.checks.specs.Order.{Checked}
+use Rattle.std.specs.Prelude.{Ok, Err}
 use Rattle.checks.specs.Order.{harvest_check}
 use Rattle.lookup.specs.Trace.{End, Trace}
 use Rattle.lookup.specs.Steps.{invalid, is_table, address_in, decoded, entry_at, followed, entered, descend, upper, range_of, outside, context_of, lookup, locate}
@@ -43,9 +43,9 @@ quick_end r ds page = (locate r (quick r.ee r.pool.length ds r.pool.address.0) (
 
 -- what a harvest leaves by where each page ends
 abbrev left_by : Regime → ℕ → ℕ → List ℕ → List ℕ → (ℕ → End) → Checked → Harvested Checked
-left_by r first count m map ends (Refused x) = harvested (Refused x) m map
-left_by r first count m map ends Accepted =
-    harvested Accepted (pages (cleaned_by (asked_of r first count) ends) first count m) (mapped (λ (n : ℕ). dirty_end (ends (first + n))) count map)
+left_by r first count m map ends (Err x) = harvested (Err x) m map
+left_by r first count m map ends (Ok _) =
+    harvested (Ok tt) (pages (cleaned_by (asked_of r first count) ends) first count m) (mapped (λ (n : ℕ). dirty_end (ends (first + n))) count map)
 
 unfoldable quick_harvest : Regime → ℕ → ℕ → List (ℕ × ℕ) → List ℕ → Harvested Checked
 quick_harvest r first count ds map = left_by r first count (memory_in r ds) map (quick_end r ds) (harvest_check r.pool.length r first count (length map))
@@ -57,16 +57,16 @@ part_whole m s l p q = rw (p, q, take-length m)
 with_whole : (m bytes : List ℕ) (s l : ℕ) → s ≡ 0 → l ≡ length m → take s m ++ bytes ++ drop (s + l) m ≡ bytes
 with_whole m bytes s l p q = rw (p, q, zero-add (length m), drop-length m, append-nil bytes)
 
-ends_left : (r : Regime) (first count : ℕ) (m map : List ℕ) → ◌≡◌ {A = Harvested Checked} (harvested Accepted (clean_pool r first count m) (mapped (reports r m first) count map)) (left_by r first count m map (reached r m) Accepted)
+ends_left : (r : Regime) (first count : ℕ) (m map : List ℕ) → ◌≡◌ {A = Harvested Checked} (harvested (Ok tt) (clean_pool r first count m) (mapped (reports r m first) count map)) (left_by r first count m map (reached r m) (Ok tt))
 unfolding clean_pool reports
 ends_left r first count m map = refl
 
 over_whole : (r : Regime) (first count : ℕ) (m map : List ℕ) (c : Checked) → r.pool.start ≡ 0 → r.pool.length ≡ length m → harvest_by r first count m map c ≡ left_by r first count m map (reached r m) c
-over_whole r first count m map (Refused x) s l = refl
-over_whole r first count m map Accepted s l =
+over_whole r first count m map (Err x) s l = refl
+over_whole r first count m map (Ok _) s l =
     let whole = pool_bytes r.pool m in
-    ap (λ (x : List ℕ). harvested Accepted x (mapped (reports r whole first) count map)) (with_whole m (clean_pool r first count whole) r.pool.start r.pool.length s l)
-    ∙ ap (λ (p : List ℕ). harvested Accepted (clean_pool r first count p) (mapped (reports r p first) count map)) (part_whole m r.pool.start r.pool.length s l)
+    ap (λ (x : List ℕ). harvested (Ok tt) x (mapped (reports r whole first) count map)) (with_whole m (clean_pool r first count whole) r.pool.start r.pool.length s l)
+    ∙ ap (λ (p : List ℕ). harvested (Ok tt) (clean_pool r first count p) (mapped (reports r p first) count map)) (part_whole m r.pool.start r.pool.length s l)
     ∙ ends_left r first count m map
 
 reached_quick : (r : Regime) (ds : List (ℕ × ℕ)) → all_placed r.pool.length ds ≡ true → reached r (memory_in r ds) ≡ quick_end r ds
@@ -110,10 +110,10 @@ memory_append r ds es = puts_append r.ee (replicate r.pool.length 0) ds es
 
 -- a second harvest, over the tables that the first leaves
 after_first : Leaves base 0x400 8 dirty_tables (leaf_now accessed_leaf) ones (first_byte 0x08) → Leaves base 0x400 8 (dirty_tables ++ leaf_now accessed_leaf) [] ones (first_byte 0x00)
-    → harvest base 0x400 8 (memory_left base) ones ≡ harvested Accepted (memory_left base) (first_byte 0x00)
+    → harvest base 0x400 8 (memory_left base) ones ≡ harvested (Ok tt) (memory_left base) (first_byte 0x00)
 unfolding puts
 after_first h g =
-    subst⁻¹ (λ (m : List ℕ). harvest base 0x400 8 m ones ≡ harvested Accepted m (first_byte 0x00))
+    subst⁻¹ (λ (m : List ℕ). harvest base 0x400 8 m ones ≡ harvested (Ok tt) m (first_byte 0x00))
     (ap (λ (x : Harvested Checked). x.memory) h ∙ sym (memory_append base dirty_tables (leaf_now accessed_leaf))) g
 
 -- the same one twice is once, and so any number of times
@@ -138,7 +138,7 @@ puts_once ee m d fits (suc n) = ap (λ (x : List ℕ). puts ee x (replicate n d)
 once : (r : Regime) (first count : ℕ) (found : List (ℕ × ℕ)) (map filled : List ℕ) (d : ℕ × ℕ) (n : ℕ) → all_placed r.pool.length found ≡ true → d.0 + 8 ≤ r.pool.length
     → Leaves r first count found (replicate (suc n) d) map filled → Leaves r first count found (d ∷ []) map filled
 once r first count found map filled d n ok fits h =
-    h ∙ ap (λ (m : List ℕ). harvested Accepted m filled) (puts_once r.ee (memory_in r found) d (rw (memory_length r.ee r.pool.length found ok) fits) n)
+    h ∙ ap (λ (m : List ℕ). harvested (Ok tt) m filled) (puts_once r.ee (memory_in r found) d (rw (memory_length r.ee r.pool.length found ok) fits) n)
 
 -- ---- the rows
 

@@ -1,12 +1,11 @@
 -- The promises of a harvest (specs/Harvest.antt) speak of `harvest`. These are every call of the function harvest::harvest and of the C function vmsa_harvest, by what their own contracts tell.
-use Rattle.std.specs.Prelude.{ℕ, List, ◌↔◌, ◌≢◌, ◌≡◌}
+use Rattle.std.specs.Prelude.{ℕ, List, ◌↔◌, ◌≢◌, ◌≡◌, Ok}
 use contract.Lifetimes.{Lfts}
 use denote.Ref.{MutBor, at_last}
 use Rattle.vmsa.specs.Words.{regime_of}
 use Rattle.vmsa.specs.declared.Regime.{Regime}
 use Rattle.vmsa.specs.declared.RegimeWords.{RegimeWords}
-use Rattle.checks.specs.declared.Checked.{Checked}
-use Rattle.checks.specs.declared.Checked.TheVariants.{Accepted}
+use Rattle.checks.specs.Order.{Checked}
 use Rattle.harvest.specs.Harvest.{harvested, harvest}
 use Rattle.harvest.proofs.harvest.Reads.{Learnt, Asked}
 use Rattle.capi_harvest.specs.Says.{HarvestSays}
@@ -26,7 +25,7 @@ HarvestFree = (lives : Lfts 2) (memory : MutBor (List ℕ)) (r : Regime) (first 
 pub record SaysHarvest (r : Regime) (first count : ℕ) (m map after filled : List ℕ) (n : ℕ) : Type 0 where
   pub memory : after ≡ (harvest r first count m map).memory
   pub map_left : filled ≡ (harvest r first count m map).map
-  pub accepted : (n ≡ 0) ↔ ((harvest r first count m map).reply ≡ Accepted)
+  pub accepted : (n ≡ 0) ↔ ((harvest r first count m map).reply ≡ Ok tt)
   pub refused : (k : ℕ) → ((n ≡ k) × (k ≢ 0)) ↔ RefusedWith k (harvest r first count m map).reply
 
 abbrev pub HarvestOfC : Type 0

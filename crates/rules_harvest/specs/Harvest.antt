@@ -1,6 +1,6 @@
 -- What a harvest (RULES 17) promises, over any bytes, regime, pages and map: rule 1, every bit of the map, every change of the memory, and what a second harvest reports.
 -- That every call gets an answer and ends is the code's contract: it asks nothing of its caller, and what it leaves equals `harvest`.
-use Rattle.std.specs.Prelude.{ℕ, ◌+◌, ◌*◌, ◌-◌, ◌/◌, ◌<◌, ◌≤◌, true, false, List, ◌⊎◌, ◌↔◌, ◌≡◌, length, get_or}
+use Rattle.std.specs.Prelude.{ℕ, ◌+◌, ◌*◌, ◌-◌, ◌/◌, ◌<◌, ◌≤◌, true, false, List, ◌⊎◌, ◌↔◌, ◌≡◌, length, get_or, Ok, Err}
 use Rattle.descriptor.specs.Bytes.{Bytes, desc}
 use Rattle.descriptor.specs.Bits.{set_bit}
 use Rattle.vmsa.specs.Answers.{number_of}
@@ -8,8 +8,7 @@ use Rattle.vmsa.specs.Granules.{page_bits_of}
 use Rattle.geometry.specs.Geometry.{page_size}
 use Rattle.vmsa.specs.declared.Regime.{Regime}
 use Rattle.vmsa.specs.declared.Refusal.{Refusal}
-use Rattle.checks.specs.declared.Checked.{Checked}
-use Rattle.checks.specs.declared.Checked.TheVariants.{Accepted, Refused}
+use Rattle.checks.specs.Order.{Checked}
 use Rattle.checks.specs.Order.{regime_check, harvest_rows}
 use Rattle.lookup.specs.Steps.{upper, range_of, outside as outside_range}
 use Rattle.walk.specs.Walk.{pool_bytes}
@@ -20,7 +19,7 @@ use Rattle.rules_harvest.specs.Leaves.{PageLeaf, offset, SaysDirty, Dirty, Asked
 
 -- refused with the number k
 abbrev pub RefusedWith : ℕ → Checked → Type 0
-RefusedWith k x = (y : Refusal) × (x ≡ Refused y) × (number_of y ≡ k)
+RefusedWith k x = (y : Refusal) × (x ≡ Err y) × (number_of y ≡ k)
 
 -- the pages and the map of so many bytes that a harvest may be asked for: 1 to 65,536 pages, all inside one and the same range by step 1 of the walk (RULES 6.1), be it
 -- disabled or not, and a bit of the map for each
@@ -42,7 +41,7 @@ module _ (r : Regime) (first count : ℕ) (m map : List ℕ) where
     -- a refusal is given exactly where the table (RULES 5) says, with the number of the first row that applies
     pub refusals : (k : ℕ) → RefusedWith k (harvest r first count m map).reply ↔ FirstNumber (harvest_rows (length m) r first count (length map)) k
     -- so where its regime is accepted, a harvest is exactly for the pages and maps that may be asked for
-    pub accepted : regime_check (length m) r ≡ Accepted → ((harvest r first count m map).reply ≡ Accepted) ↔ Askable r first count (length map)
+    pub accepted : regime_check (length m) r ≡ Ok tt → ((harvest r first count m map).reply ≡ Ok tt) ↔ Askable r first count (length map)
     -- a refusal changes neither memory nor map
     pub kept : (k : ℕ) → RefusedWith k (harvest r first count m map).reply → ((harvest r first count m map).memory ≡ m) × ((harvest r first count m map).map ≡ map)
     -- no byte outside the guest's pool is changed: memory and map keep their lengths, and bytes stay bytes
@@ -58,7 +57,7 @@ module _ (r : Regime) (first count : ℕ) (m map : List ℕ) where
     pub unread : (other : List ℕ) → length map ≡ length other
         → ((harvest r first count m map).reply ≡ (harvest r first count m other).reply)
         × ((harvest r first count m map).memory ≡ (harvest r first count m other).memory)
-        × ((harvest r first count m map).reply ≡ Accepted → (j : ℕ) → j ≤ final_byte count → get_or (harvest r first count m map).map j 0 ≡ get_or (harvest r first count m other).map j 0)
+        × ((harvest r first count m map).reply ≡ Ok tt → (j : ℕ) → j ≤ final_byte count → get_or (harvest r first count m map).map j 0 ≡ get_or (harvest r first count m other).map j 0)
 
   -- ---- what an accepted harvest leaves
 
@@ -73,7 +72,7 @@ module _ (r : Regime) (first count : ℕ) (m map : List ℕ) where
     -- no other byte of the memory changes
     pub still : (i : ℕ) → ((l : SetAgain r first count m) → (i < offset l.leaf) ⊎ (offset l.leaf + 8 ≤ i)) → get_or (harvest r first count m map).memory i 0 ≡ get_or m i 0
     -- a second harvest of the same pages right after it reports exactly the pages whose leaf no page asked for had reached whole
-    pub again : (other : List ℕ) → (harvest r first count (harvest r first count m map).memory other).reply ≡ Accepted → (n : ℕ) → n < count
+    pub again : (other : List ℕ) → (harvest r first count (harvest r first count m map).memory other).reply ≡ Ok tt → (n : ℕ) → n < count
         → (map_bit (harvest r first count (harvest r first count m map).memory other).map n ≡ true)
         ↔ ((l : PageLeaf r m (first + n)) × SaysDirty l.value × ((q : ℕ) → AskedFor first count q → (k : PageLeaf r m q) → k.address ≡ l.address → Whole first count k → ⊥))
 
@@ -83,4 +82,4 @@ abbrev pub HarvestRule1s : Type 0
 HarvestRule1s = (r : Regime) (first count : ℕ) (m map : List ℕ) → HarvestRule1 r first count m map
 
 abbrev pub HarvestPromises : Type 0
-HarvestPromises = (r : Regime) (first count : ℕ) (m map : List ℕ) → Bytes m → (harvest r first count m map).reply ≡ Accepted → Harvests r first count m map
+HarvestPromises = (r : Regime) (first count : ℕ) (m map : List ℕ) → Bytes m → (harvest r first count m map).reply ≡ Ok tt → Harvests r first count m map

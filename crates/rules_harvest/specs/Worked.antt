@@ -1,11 +1,10 @@
 -- Harvests (RULES 17) over the tables of the worked cases (RULES 12): the map in bytes, and what changes in the memory.
-use Rattle.std.specs.Prelude.{ℕ, ◌-◌, Bool, true, false, List, [], ◌∷◌, ◌++◌, ◌≡◌, take, drop, replicate}
+use Rattle.std.specs.Prelude.{ℕ, ◌-◌, Bool, true, false, List, [], ◌∷◌, ◌++◌, ◌≡◌, take, drop, replicate, Ok, Err}
 use Rattle.vmsa.specs.Answers.{number_of}
 use Rattle.vmsa.specs.Settings.{disabled_range, with_range0, with_ha}
 use Rattle.vmsa.specs.declared.Regime.{Regime}
 use Rattle.vmsa.specs.declared.Granule.TheVariants.{Kib16, Kib64}
 use Rattle.vmsa.specs.declared.Refusal.{Refusal}
-use Rattle.checks.specs.declared.Checked.TheVariants.{Accepted, Refused}
 use Rattle.harvest.specs.Harvest.{reports, harvested, harvest}
 use Rattle.cases.specs.Cases.{pool_address, base, big_endian, leaf_address, accessed_leaf, dirty_leaf, with_leaf, with_third, stored, leaf_now, granuled, way_in, last_now, accessed_page16, accessed_page64, puts, memory_of}
 
@@ -15,7 +14,7 @@ memory_in r found = memory_of r.ee r.pool.length found
 
 -- an accepted harvest of count pages from page first on: it changes these descriptors and no other byte of the memory, and this is its map before and after
 abbrev pub Leaves : Regime → ℕ → ℕ → List (ℕ × ℕ) → List (ℕ × ℕ) → List ℕ → List ℕ → Type 0
-Leaves r first count found changed map filled = harvest r first count (memory_in r found) map ≡ harvested Accepted (puts r.ee (memory_in r found) changed) filled
+Leaves r first count found changed map filled = harvest r first count (memory_in r found) map ≡ harvested (Ok tt) (puts r.ee (memory_in r found) changed) filled
 
 -- the tables as P2 leaves them, as P1 leaves them, with AP[2] clear but the Access flag too, and with AP[2] clear but DBM too: only the first leaf says dirty.
 -- It is the leaf of page 0x403
@@ -51,7 +50,7 @@ tables64 = way_in (granuled Kib64 16) (0x0025 ∷ 0x1005 ∷ 0x1006 ∷ []) 0x00
 
 -- one over the tables that P2 leaves is refused with this number, and neither memory nor map changes
 abbrev pub Refuses : Regime → ℕ → ℕ → List ℕ → ℕ → Type 0
-Refuses r first count map number = (x : Refusal) × (number_of x ≡ number) × (harvest r first count (memory_in r dirty_tables) map ≡ harvested (Refused x) (memory_in r dirty_tables) map)
+Refuses r first count map number = (x : Refusal) × (number_of x ≡ number) × (harvest r first count (memory_in r dirty_tables) map ≡ harvested (Err x) (memory_in r dirty_tables) map)
 
 -- a map of two bytes with all bits set, and what becomes of it: its first byte is filled
 abbrev pub ones : List ℕ
@@ -77,7 +76,7 @@ pub record WorkedHarvest : Type 0 where
   pub bits : eight_bits (reports base (memory_in base dirty_tables) 0x400) ≡ false ∷ false ∷ false ∷ true ∷ false ∷ false ∷ false ∷ false ∷ []
   pub bytes : leaf_bytes_left base ≡ 0xC3 ∷ 0x57 ∷ 0x00 ∷ 0x80 ∷ 0x00 ∷ 0x00 ∷ 0x08 ∷ 0x00 ∷ []
   -- a second one over the memory that it leaves reports nothing, and changes nothing
-  pub again : harvest base 0x400 8 (memory_left base) ones ≡ harvested Accepted (memory_left base) (first_byte 0x00)
+  pub again : harvest base 0x400 8 (memory_left base) ones ≡ harvested (Ok tt) (memory_left base) (first_byte 0x00)
   -- the same with EE on
   pub big : Leaves big_endian 0x400 8 dirty_tables (leaf_now accessed_leaf) ones (first_byte 0x08)
   pub big_bytes : leaf_bytes_left big_endian ≡ 0x00 ∷ 0x08 ∷ 0x00 ∷ 0x00 ∷ 0x80 ∷ 0x00 ∷ 0x57 ∷ 0xC3 ∷ []
@@ -107,7 +106,7 @@ pub record WorkedHarvest : Type 0 where
   pub end0 : Leaves base 0xFFFFFFFFF 1 dirty_tables [] ones (first_byte 0x00)
   pub end1 : Leaves base 0xFFFFFFFFFFFFF 1 dirty_tables [] ones (first_byte 0x00)
   -- the most pages, with the shortest map that they take
-  pub most : (harvest base 0x400 65536 (memory_in base dirty_tables) (replicate 8192 0xFF)).reply ≡ Accepted
+  pub most : (harvest base 0x400 65536 (memory_in base dirty_tables) (replicate 8192 0xFF)).reply ≡ Ok tt
   -- 10: no pages; one more than 65,536 pages; past the end of range 0; in neither range; past the end of range 1
   pub none : Refuses base 0x400 0 ones 10
   pub many : Refuses base 0x400 65537 (replicate 8193 0xFF) 10

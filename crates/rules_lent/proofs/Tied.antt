@@ -12,7 +12,7 @@ use Rattle.vmsa.specs.declared.Regime.{Regime}
 use Rattle.vmsa.specs.declared.Access.{Access}
 use Rattle.vmsa.specs.declared.Answer.{Answer}
 use Rattle.vmsa.specs.declared.PhysAddr.{PhysAddr}
-use Rattle.checks.specs.declared.Checked.{Checked}
+use Rattle.checks.specs.Order.{Checked}
 use Rattle.tlb.specs.Replies.{done, reply_of, reply_to, harvest_reply}
 use Rattle.session.specs.declared.Session.{Session as SessionStruct}
 use Rattle.session.specs.Model.{handed, set_regime, access, store, drop_all, harvest}

@@ -1,13 +1,12 @@
 -- Rules 1 and 3 (RULES 13) of the functions over a lent session: each call by what its own contract tells (lent, specs/Says.antt).
-use Rattle.std.specs.Prelude.{ℕ, List, ◌≡◌}
+use Rattle.std.specs.Prelude.{ℕ, List, ◌≡◌, Err}
 use Rattle.vmsa.specs.Answers.{view}
 use Rattle.vmsa.specs.declared.Regime.{Regime}
 use Rattle.vmsa.specs.declared.Access.{Access}
 use Rattle.vmsa.specs.declared.Answer.{Answer}
 use Rattle.vmsa.specs.declared.PhysAddr.{PhysAddr}
 use Rattle.vmsa.specs.declared.Refusal.{Refusal}
-use Rattle.checks.specs.declared.Checked.{Checked}
-use Rattle.checks.specs.declared.Checked.TheVariants.{Refused}
+use Rattle.checks.specs.Order.{Checked}
 use Rattle.tlb.specs.Replies.{Reply, done, reply_of, reply_to, harvest_reply}
 use Rattle.session.specs.declared.Session.{Session as SessionStruct}
 use Rattle.session.specs.Model.{Handed, handed, Call, set_regime, access, store, drop_all, harvest}
@@ -49,4 +48,4 @@ NextOfLent = (s₀ : SessionStruct) → Begun s₀ → NextFrom MadeLent s₀
 
 abbrev pub MapKeptOfLent : Type 0
 MapKeptOfLent = (s : SessionStruct) (m : List ℕ) (first count : ℕ) (map : List ℕ) (s' : SessionStruct) (m' map' : List ℕ) (x : Checked) → HarvestSays s m first count map s' m' map' x
-    → (y : Refusal) → x ≡ Refused y → map' ≡ map
+    → (y : Refusal) → x ≡ Err y → map' ≡ map

@@ -21,7 +21,7 @@ use Rattle.lookup.specs.Steps.{decoded, context_of}
 use Rattle.lookup.proofs.Decoding.{is_leaf, output_below}
 use Rattle.permission.specs.Permission.{flag_fails, alignment_fails, permission_fails}
 use Rattle.decision.specs.Decision.{flag_due, dirty_due, updated, output_of, failing, passing, decision}
-use Rattle.stepwise.specs.declared.Due.TheVariants as due
+use Rattle.std.specs.Prelude.{None, Some}
 use Rattle.stepwise.specs.declared.Wanting.{Wanting}
 use Rattle.stepwise.specs.Stepwise.{Ended, conclusion, declined, due_of, leaf_at}
 use Rattle.rules.specs.Rule2.{FlagUpdate, DirtyUpdate}
@@ -56,7 +56,7 @@ module _ (r : Regime) (a : Access) (at : ℕ) (l : Leaf) (n : ℕ) where
       by false q = DirtyUpdate.kept (updated_ap2 v (flag_due r a l) (dirty_due r a l) ∙ rw q)
 
   passes_says : (b : Bool) → (flag_due r a l || dirty_due r a l) ≡ b
-      → Says r a (success (told r a l n)) (pick b (due.Update (record { address = record { 0 = at }; expected = v; value = after })) due.Nothing)
+      → Says r a (success (told r a l n)) (pick b (Some (record { address = record { 0 = at }; expected = v; value = after })) None)
   passes_says true q = (told r a l n, refl, record { some = q; flag = flag_made; dirty = dirty_made; bits = updated_other v (flag_due r a l) (dirty_due r a l) })
   passes_says false q = λ x e.
       let z : told r a l n ≡ x = cc in

@@ -2,7 +2,7 @@
 use Prim.Native.Nat.{ℕ, ◌+◌, ◌-◌}
 use mathlib.Core.Bool.{Bool, true, false}
 use mathlib.Core.List.{List}
-use mathlib.Core.Path.{◌≡◌, refl, ap, subst, subst⁻¹, ◌∙◌}
+use mathlib.Core.Path.{◌≡◌, refl, ap, subst⁻¹, ◌∙◌}
 use native.Mathlib.Omega.{arith}
 use lib.ListN.{length}
 use Rattle.descriptor.specs.Bytes.{put}
@@ -11,8 +11,8 @@ use Rattle.vmsa.specs.declared.Regime.{Regime}
 use Rattle.vmsa.specs.declared.Access.{Access}
 use Rattle.vmsa.specs.declared.Leaf.{Leaf}
 use Rattle.refusals.specs.Tests.{memory_pool_bad, pool_address_bad}
-use Rattle.checks.specs.declared.Checked.{Checked}
-use Rattle.checks.specs.declared.Checked.TheVariants.{Accepted, Refused}
+use Rattle.checks.specs.Order.{Checked}
+use Rattle.std.specs.Prelude.{Ok, Err, None, Some}
 use Rattle.checks.specs.Order.{walk_check, start_check}
 use Rattle.checks.proofs.Rows.{walk_start}
 use Rattle.lookup.specs.Trace.{End, fault, leaf}
@@ -21,7 +21,6 @@ use Rattle.decision.specs.Decision.{Decision, decision}
 use Rattle.walk.specs.Walk.{Outcome, pool_bytes, with_pool_bytes, concluded, traced, walk_pool, walk}
 use Rattle.walk.proofs.Ends.{ready}
 use Rattle.walk.proofs.Parts.{with_own, with_put}
-use Rattle.stepwise.specs.declared.Due.TheVariants as due
 use Rattle.stepwise.specs.Stepwise.{Ended, conclusion, due_of}
 use Rattle.rules.specs.Tables.{trace_of, reader_of}
 use Rattle.rules.specs.Rule2.{LeafOf}
@@ -34,7 +33,7 @@ use Rattle.rules_stepwise.proofs.Starts.{plain_refused, plain_walked}
 abbrev pub IsWalk : Regime → Access → List ℕ → Ended → Type 0
 IsWalk r a m e = ((walk r a m).result ≡ e.result) × ((walk r a m).bytes ≡ with_due r m e.due) × Expected r m e.due
 
-module _ (r : Regime) (a : Access) (m : List ℕ) (k : walk_check (length m) r a ≡ Accepted) where
+module _ (r : Regime) (a : Access) (m : List ℕ) (k : walk_check (length m) r a ≡ Ok tt) where
   abbrev reads : ℕ
   reads = length (trace_of r a m).visited
 
@@ -64,14 +63,14 @@ module _ (r : Regime) (a : Access) (m : List ℕ) (k : walk_check (length m) r a
         ∙ by d.update
       where
         by : (b : Bool) → pick b (put r.ee m (r.pool.start + (at - r.pool.address.0)) d.value) m
-            ≡ with_due r m (pick b (due.Update (record { address = record { 0 = at }; expected = l.value; value = d.value })) due.Nothing)
+            ≡ with_due r m (pick b (Some (record { address = record { 0 = at }; expected = l.value; value = d.value })) None)
         by true = refl
         by false = refl
 
     leaf_expected : (d : Decision) → Expected r m (due_of at l.value d)
     leaf_expected d = by d.update
       where
-        by : (b : Bool) → Expected r m (pick b (due.Update (record { address = record { 0 = at }; expected = l.value; value = d.value })) due.Nothing)
+        by : (b : Bool) → Expected r m (pick b (Some (record { address = record { 0 = at }; expected = l.value; value = d.value })) None)
         by true = stands
         by false = tt
 
@@ -92,8 +91,8 @@ pub plain_walk : (r : Regime) (a : Access) (m : List ℕ) → memory_pool_bad (l
 plain_walk r a m e f = by (start_check r a) refl
   where
     by : (x : Checked) → start_check r a ≡ x → IsWalk r a m (plain_over r a (reader_of r m)).end
-    by (Refused x) k =
+    by (Err x) k =
         let w = walk_refused r a m x (walk_start (length m) r a e f ∙ k) in
         subst⁻¹ (λ (p : Plain). IsWalk r a m p.end) (plain_refused r a (reader_of r m) x k) (ap (λ (o : Outcome). o.result) w, ap (λ (o : Outcome). o.bytes) w, tt)
-    by Accepted k =
+    by (Ok _) k =
         subst⁻¹ (λ (p : Plain). IsWalk r a m p.end) (plain_walked r a (reader_of r m) k) (walked_end r a m (walk_start (length m) r a e f ∙ k))

@@ -1,7 +1,7 @@
 -- The promises, of any functions that do what the rules say of an offer.
 use Prim.Native.Nat.{ℕ}
 use mathlib.Core.List.{List, [], ◌∷◌, ◌++◌}
-use mathlib.Core.Option.{none, some}
+use Rattle.std.specs.Prelude.{None, Some, Ok, Err, Option}
 use mathlib.Core.Path.{◌≡◌, refl, sym, ap, subst, ◌∙◌}
 use Rattle.descriptor.proofs.Tests.{clash}
 use Rattle.vmsa.specs.Answers.{refused as refused_with, number_of}
@@ -10,12 +10,9 @@ use Rattle.vmsa.specs.declared.Regime.{Regime}
 use Rattle.vmsa.specs.declared.Access.{Access}
 use Rattle.vmsa.specs.declared.FaultKind.TheVariants.{ExternalAbort}
 use Rattle.geometry.specs.Geometry.{level_of}
-use Rattle.checks.specs.declared.Checked.{Checked}
-use Rattle.checks.specs.declared.Checked.TheVariants.{Accepted, Refused}
+use Rattle.checks.specs.Order.{Checked}
 use Rattle.checks.specs.Order.{start_rows, start_check}
-use Rattle.lookup.specs.declared.Word.{Word}
-use Rattle.lookup.specs.declared.First.{First}
-use Rattle.lookup.specs.declared.First.TheVariants as first
+use Rattle.lookup.specs.Steps.{First}
 use Rattle.lookup.specs.Trace.{End, fault, leaf}
 use Rattle.lookup.specs.Steps.{left_at_first, first_table}
 use Rattle.stepwise.specs.declared.Wanting.{Wanting}
@@ -42,12 +39,12 @@ module _ {S : Type 0} (see : S → Progress) (F : Functions S) (L : Offering see
     accepted = λ s a h o t n f. by s a h o t n f (see s) refl;
   }
     where
-      by : (s : S) (a : ℕ) → named (see s) ≡ some a → (o : Word) (t : S) (n : ℕ) → F s o t n → (p : Progress) → see s ≡ p → n ≡ 0
+      by : (s : S) (a : ℕ) → named (see s) ≡ Some a → (o : Option ℕ) (t : S) (n : ℕ) → F s o t n → (p : Progress) → see s ≡ p → n ≡ 0
       by s a h o t n f (wanting w) q = (L.goes s o t n f w q).1
-      by s a h o t n f (ended e) q = clash (let z : none ≡ some a = sym (ap named q) ∙ h in cc)
+      by s a h o t n f (ended e) q = clash (let z : None ≡ Some a = sym (ap named q) ∙ h in cc)
 
   -- a walk that goes on ends in no refusal
-  answers : {s u : S} {offers : List Offer} (w : Wanting) → see s ≡ wanting w → start_check w.regime w.access ≡ Accepted → Fed see F s offers u → (e : Ended) → see u ≡ ended e → (k : ℕ) → e.result ≡ refused_with k → ⊥
+  answers : {s u : S} {offers : List Offer} (w : Wanting) → see s ≡ wanting w → start_check w.regime w.access ≡ Ok tt → Fed see F s offers u → (e : Ended) → see u ≡ ended e → (k : ℕ) → e.result ≡ refused_with k → ⊥
   answers w q c none_yet e h k x = clash (let z : wanting w ≡ ended e = sym q ∙ h in cc)
   answers {u = u} w q c (more {t = t} {a = a} {n = n} {o = o} {offers = offers} m f rest) e h k x = by (λ w' g d. answers w' g d rest e h k x) (offered w o) (L.goes _ o t n f w q).0 (left_by_lem w o)
     where
@@ -57,8 +54,8 @@ module _ {S : Type 0} (see : S → Progress) (F : Functions S) (L : Offering see
           let d : conclusion w.regime w.access (reads_at w) y ≡ e = cc in
           conclusion_answers w.regime w.access (reads_at w) y k (ap (λ (v : Ended). v.result) d ∙ x)
 
-      by : ((w' : Wanting) → see t ≡ wanting w' → start_check w'.regime w'.access ≡ Accepted → ⊥) → (p : Progress) → see t ≡ p → Left w o p → ⊥
-      by again p g (refused y d) = clash (let z : Refused y ≡ Accepted = sym d ∙ c in cc)
+      by : ((w' : Wanting) → see t ≡ wanting w' → start_check w'.regime w'.access ≡ Ok tt → ⊥) → (p : Progress) → see t ≡ p → Left w o p → ⊥
+      by again p g (refused y d) = clash (let z : Err y ≡ Ok tt = sym d ∙ c in cc)
       by again p g (aborted d y) = last (fault ExternalAbort (level_of (left_at w))) g
       by again p g (faulted d v y kind z) = last (fault kind (level_of (left_at w))) g
       by again p g (reached d v y z) = last (leaf w.address.0 (leaf_at w v)) g
@@ -93,32 +90,32 @@ module _ {S : Type 0} (see : S → Progress) (F : Functions S) (L : Offering see
             subst (Fine r a) d k
 
         first_by : (y : First) → see s ≡ begun r a y → Fine r a e
-        first_by (first.Fault kind) g = over (conclusion r a 0 (fault kind 0)) g (fine_fault r a 0 kind 0)
-        first_by (first.Table root) g = fed_fine (wanting_entry r a (left_at_first r a.address.0) no_tables root.0) g f e h
+        first_by (Err kind) g = over (conclusion r a 0 (fault kind 0)) g (fine_fault r a 0 kind 0)
+        first_by (Ok root) g = fed_fine (wanting_entry r a (left_at_first r a.address.0) no_tables root.0) g f e h
 
         by : (y : Checked) → start_check r a ≡ y → Fine r a e
-        by (Refused y) c = over (declined y) (q ∙ start_refused r a y c) (fine_refused r a y)
-        by Accepted c = first_by (first_table r a.address.0) (q ∙ start_begun r a c)
+        by (Err y) c = over (declined y) (q ∙ start_refused r a y c) (fine_refused r a y)
+        by (Ok _) c = first_by (first_table r a.address.0) (q ∙ start_begun r a c)
 
     -- what a start that is not refused gives
-    on_first : start_check r a ≡ Accepted → (f : First) → see s ≡ begun r a f → (e : Ended) → see s ≡ ended e → (k : ℕ) → e.result ≡ refused_with k → ⊥
-    on_first c (first.Fault kind) g e h k x =
+    on_first : start_check r a ≡ Ok tt → (f : First) → see s ≡ begun r a f → (e : Ended) → see s ≡ ended e → (k : ℕ) → e.result ≡ refused_with k → ⊥
+    on_first c (Err kind) g e h k x =
         let z : ended (conclusion r a 0 (fault kind 0)) ≡ ended e = sym g ∙ h in
         let d : conclusion r a 0 (fault kind 0) ≡ e = cc in
         conclusion_answers r a 0 (fault kind 0) k (ap (λ (v : Ended). v.result) d ∙ x)
-    on_first c (first.Table root) g e h k x = clash (let z : begun r a (first.Table root) ≡ ended e = sym g ∙ h in cc)
+    on_first c (Ok root) g e h k x = clash (let z : begun r a (Ok root) ≡ ended e = sym g ∙ h in cc)
 
     refused_by : (k : ℕ) (e : Ended) → see s ≡ ended e → e.result ≡ refused_with k → FirstNumber (start_rows r a) k
     unfolding start_check
     refused_by k e h x = by (start_check r a) refl
       where
         by : (y : Checked) → start_check r a ≡ y → FirstNumber (start_rows r a) k
-        by (Refused y) c =
+        by (Err y) c =
             let z : ended (declined y) ≡ ended e = sym (q ∙ start_refused r a y c) ∙ h in
             let d : declined y ≡ e = cc in
             let n : refused_with (number_of y) ≡ refused_with k = ap (λ (v : Ended). v.result) d ∙ x in
             (y, refuses_first (start_rows r a) y c, (cc))
-        by Accepted c = absurd (on_first c (first_table r a.address.0) (q ∙ start_begun r a c) e h k x)
+        by (Ok _) c = absurd (on_first c (first_table r a.address.0) (q ∙ start_begun r a c) e h k x)
 
     refused_at : (k : ℕ) → FirstNumber (start_rows r a) k → (e : Ended) × (see s ≡ ended e) × (e.result ≡ refused_with k)
     unfolding start_check
@@ -131,24 +128,24 @@ module _ {S : Type 0} (see : S → Progress) (F : Functions S) (L : Offering see
         over : (y : Ended) → see s ≡ ended y → ⊥
         over y g = clash (let d : (x ∷ offers) ≡ [] = (stops see F L y g f).0 in cc)
 
-        first_by : start_check r a ≡ Accepted → (y : First) → see s ≡ begun r a y → ⊥
-        first_by c (first.Fault kind) g = over (conclusion r a 0 (fault kind 0)) g
-        first_by c (first.Table root) g = answers (wanting_entry r a (left_at_first r a.address.0) no_tables root.0) g c f e h k z
+        first_by : start_check r a ≡ Ok tt → (y : First) → see s ≡ begun r a y → ⊥
+        first_by c (Err kind) g = over (conclusion r a 0 (fault kind 0)) g
+        first_by c (Ok root) g = answers (wanting_entry r a (left_at_first r a.address.0) no_tables root.0) g c f e h k z
 
         by : (y : Checked) → start_check r a ≡ y → ⊥
-        by (Refused y) c = over (declined y) (q ∙ start_refused r a y c)
-        by Accepted c = first_by c (first_table r a.address.0) (q ∙ start_begun r a c)
+        by (Err y) c = over (declined y) (q ∙ start_refused r a y c)
+        by (Ok _) c = first_by c (first_table r a.address.0) (q ∙ start_begun r a c)
 
-    at_end : (read : ℕ → Word) (t : S) (offers : List Offer) → Fed see F s offers t → Reads read offers → (e : Ended) → see t ≡ ended e → Beside r a read offers (ended e)
+    at_end : (read : ℕ → Option ℕ) (t : S) (offers : List Offer) → Fed see F s offers t → Reads read offers → (e : Ended) → see t ≡ ended e → Beside r a read offers (ended e)
     at_end read t offers f z e h = subst (λ (p : Progress). Beside r a read offers p) h (beside see F L r a read q f z)
 
-    before_end : (read : ℕ → Word) (t : S) (offers : List Offer) → Fed see F s offers t → Reads read offers → (x : ℕ) → named (see t) ≡ some x
+    before_end : (read : ℕ → Option ℕ) (t : S) (offers : List Offer) → Fed see F s offers t → Reads read offers → (x : ℕ) → named (see t) ≡ Some x
         → (p : Progress) → see t ≡ p → (rest : List ℕ) × ((plain_over r a read).visited ≡ addresses offers ++ (x ∷ rest))
     before_end read t offers f z x h (wanting w) g =
         let b : Beside r a read offers (wanting w) = subst (λ (p : Progress). Beside r a read offers p) g (beside see F L r a read q f z) in
-        let y : w.address.0 ≡ x = let k : some w.address.0 ≡ some x = sym (ap named g) ∙ h in cc in
+        let y : w.address.0 ≡ x = let k : Some w.address.0 ≡ Some x = sym (ap named g) ∙ h in cc in
         (b.0, subst (λ (n : ℕ). (plain_over r a read).visited ≡ addresses offers ++ (n ∷ b.0)) y b.1)
-    before_end read t offers f z x h (ended e) g = clash (let k : none ≡ some x = sym (ap named g) ∙ h in cc)
+    before_end read t offers f z x h (ended e) g = clash (let k : None ≡ Some x = sym (ap named g) ∙ h in cc)
 
     pub walks : Walks see F r a s
     walks = record {

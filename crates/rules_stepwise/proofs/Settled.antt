@@ -6,13 +6,10 @@ use Rattle.descriptor.proofs.Tests.{clash}
 use Rattle.vmsa.proofs.Answers.{LowIn, view_settles}
 use Rattle.vmsa.specs.declared.Regime.{Regime}
 use Rattle.vmsa.specs.declared.Access.{Access}
-use Rattle.checks.specs.declared.Checked.{Checked}
-use Rattle.checks.specs.declared.Checked.TheVariants.{Accepted, Refused}
+use Rattle.checks.specs.Order.{Checked}
+use Rattle.std.specs.Prelude.{Ok, Err, Option, Some, None}
 use Rattle.checks.specs.Order.{start_check}
-use Rattle.lookup.specs.declared.Word.{Word}
-use Rattle.lookup.specs.declared.Word.TheVariants.{Value, Unreachable}
-use Rattle.lookup.specs.declared.First.{First}
-use Rattle.lookup.specs.declared.First.TheVariants as first
+use Rattle.lookup.specs.Steps.{First}
 use Rattle.lookup.specs.Steps.{first_table}
 use Rattle.lookup.proofs.Packing.{level_le}
 use Rattle.walk.proofs.Settled.{low_decision}
@@ -34,18 +31,18 @@ Low (wanting w) = Unit {0}
 Low (ended e) = LowIn e.result
 
 low_first : (r : Regime) (a : Access) (f : First) → Low (begun r a f)
-low_first r a (first.Fault kind) = lit≤ tt
-low_first r a (first.Table root) = tt
+low_first r a (Err kind) = lit≤ tt
+low_first r a (Ok root) = tt
 
 low_started : (r : Regime) (a : Access) (x : Checked) → Low (started r a x)
-low_started r a (Refused x) = tt
-low_started r a Accepted = low_first r a (first_table r a.address.0)
+low_started r a (Err x) = tt
+low_started r a (Ok _) = low_first r a (first_table r a.address.0)
 
 low_start : (r : Regime) (a : Access) → Low (start r a)
 unfolding start
 low_start r a = low_started r a (start_check r a)
 
-low_left : (w : Wanting) (o : Word) (p : Progress) → Left w o p → Low p
+low_left : (w : Wanting) (o : Option ℕ) (p : Progress) → Left w o p → Low p
 low_left w o p (refused x c) = tt
 low_left w o p (aborted c e) = level_le (left_at w)
 low_left w o p (faulted c v e kind d) = level_le (left_at w)
@@ -67,7 +64,7 @@ seen_settles (stepwise.Ended c) (stepwise.Ended d) low e = let z : seen_end c �
 both : (p : Progress) → Low p → (s t : Stepwise) → seen s ≡ p → seen t ≡ p → s ≡ t
 both p low s t e f = seen_settles s t (subst⁻¹ Low e low) (e ∙ sym f)
 
-takes_one : (s : Stepwise) (o : Word) (x y : Offered) → Takes s o x → Takes s o y → x ≡ y
+takes_one : (s : Stepwise) (o : Option ℕ) (x y : Offered) → Takes s o x → Takes s o y → x ≡ y
 takes_one (stepwise.Wanting w) o x y h k =
     let p = both (offered w o) (low_left w o (offered w o) (left_by_lem w o)) x.walk y.walk h.0 k.0 in
     let q = h.1 ∙ sym k.1 in
@@ -80,10 +77,10 @@ pub start_one : (r : Regime) (a : Access) (s t : Stepwise) → Begun r a s → B
 start_one r a s t h k = both (start r a) (low_start r a) s t h k
 
 pub value_one : (s : Stepwise) (v : ℕ) (x y : Offered) → ValueOf.Learnt tt (s, (v, tt)) x (s, (v, tt)) → ValueOf.Learnt tt (s, (v, tt)) y (s, (v, tt)) → x ≡ y
-value_one s v x y h k = takes_one s (Value v) x y h k
+value_one s v x y h k = takes_one s (Some v) x y h k
 
 pub unreachable_one : (s : Stepwise) (x y : Offered) → UnreachableOf.Learnt tt (s, tt) x (s, tt) → UnreachableOf.Learnt tt (s, tt) y (s, tt) → x ≡ y
-unreachable_one s x y h k = takes_one s Unreachable x y h k
+unreachable_one s x y h k = takes_one s None x y h k
 
 pub start_free : (r : Regime) (a : Access) → Start.Asked tt (r, (a, tt))
 start_free r a = tt

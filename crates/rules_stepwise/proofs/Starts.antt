@@ -1,7 +1,7 @@
 -- A walk that was started and is fed by a reader: what it has named, and how it ends, beside the plain walk over that reader.
-use Prim.Native.Nat.{ℕ, ◌+◌, ◌-◌}
+use Prim.Native.Nat.{ℕ, ◌+◌}
 use mathlib.Core.List.{List, [], ◌∷◌, ◌++◌}
-use mathlib.Core.Path.{◌≡◌, refl, sym, ap, subst, subst⁻¹, ◌∙◌}
+use mathlib.Core.Path.{◌≡◌, refl, sym, ap, subst⁻¹, ◌∙◌}
 use native.Mathlib.Nat.{min-eq_left, le_refl}
 use native.Mathlib.Omega.{arith}
 use lib.ListN.{length}
@@ -10,12 +10,10 @@ use Rattle.vmsa.specs.declared.Regime.{Regime}
 use Rattle.vmsa.specs.declared.Access.{Access}
 use Rattle.vmsa.specs.declared.PhysAddr.{PhysAddr}
 use Rattle.vmsa.specs.declared.Refusal.{Refusal}
-use Rattle.checks.specs.declared.Checked.{Checked}
-use Rattle.checks.specs.declared.Checked.TheVariants.{Accepted, Refused}
+use Rattle.checks.specs.Order.{Checked}
+use Rattle.std.specs.Prelude.{Ok, Err, Option}
 use Rattle.checks.specs.Order.{start_check}
-use Rattle.lookup.specs.declared.Word.{Word}
-use Rattle.lookup.specs.declared.First.{First}
-use Rattle.lookup.specs.declared.First.TheVariants as first
+use Rattle.lookup.specs.Steps.{First}
 use Rattle.lookup.specs.Trace.{fault, Trace, end_under_hpd, under_hpd}
 use Rattle.lookup.specs.Steps.{context_of, range_of, left_at_first, first_table, locate, entry_at}
 use Rattle.lookup.proofs.Levels.{locate_first}
@@ -26,12 +24,12 @@ use Rattle.rules_stepwise.specs.Feeds.{Offer, Functions, Offering, Fed, addresse
 use Rattle.rules_stepwise.proofs.Lefts.{entry_trace, descend_entry, rest_of}
 use Rattle.rules_stepwise.proofs.Chains.{before, Along, stops, goes_along}
 
-module _ (r : Regime) (a : Access) (read : ℕ → Word) where
-  pub plain_refused : (x : Refusal) → start_check r a ≡ Refused x → plain_over r a read ≡ record { visited = []; end = declined x }
+module _ (r : Regime) (a : Access) (read : ℕ → Option ℕ) where
+  pub plain_refused : (x : Refusal) → start_check r a ≡ Err x → plain_over r a read ≡ record { visited = []; end = declined x }
   unfolding plain_over
   plain_refused x k = ap (plain_by r a read) k
 
-  pub plain_walked : start_check r a ≡ Accepted → plain_over r a read ≡ along r a (locate r read a.address.0)
+  pub plain_walked : start_check r a ≡ Ok tt → plain_over r a read ≡ along r a (locate r read a.address.0)
   unfolding plain_over
   plain_walked k = ap (plain_by r a read) k
 
@@ -52,15 +50,15 @@ module _ (r : Regime) (a : Access) (read : ℕ → Word) where
     before_none : before w₀ ≡ 0
     before_none = let e = first_left_lem in omega (arith, e)
 
-    all_before : first_table r a.address.0 ≡ first.Table root → locate r read a.address.0 ≡ under_hpd (range_of r a.address.0).hpd (rest_of w₀ read)
+    all_before : first_table r a.address.0 ≡ Ok root → locate r read a.address.0 ≡ under_hpd (range_of r a.address.0).hpd (rest_of w₀ read)
     all_before f =
         let c = context_of r a.address.0 in
         let left = left_at_first r a.address.0 in
-        locate_first r read a.address.0 (first.Table root) f
+        locate_first r read a.address.0 (Ok root) f
         ∙ ap (under_hpd (range_of r a.address.0).hpd)
         (descend_entry c read left no_tables root.0 ∙ ap (λ (n : ℕ). entry_trace c read n no_tables (entry_at c left root.0)) (sym first_left_lem))
 
-    from_first_lem : start_check r a ≡ Accepted → first_table r a.address.0 ≡ first.Table root → (offers : List Offer) (p : Progress) → Along w₀ read offers p → Beside offers p
+    from_first_lem : start_check r a ≡ Ok tt → first_table r a.address.0 ≡ Ok root → (offers : List Offer) (p : Progress) → Along w₀ read offers p → Beside offers p
     from_first_lem k f offers (wanting w) h = (_, ap (λ (x : Plain). x.visited) (plain_walked k) ∙ ap (λ (t : Trace). t.visited) (all_before f) ∙ h)
     from_first_lem k f offers (ended e) h =
         let q = plain_walked k ∙ ap (along r a) (all_before f) in
@@ -69,7 +67,7 @@ module _ (r : Regime) (a : Access) (read : ℕ → Word) where
           h.1 ∙ ap (λ (m : ℕ). conclusion r a m (end_under_hpd (range_of r a.address.0).hpd (rest_of w₀ read).end)) n ∙ ap (λ (x : Plain). x.end) (sym q),
         )
 
-module _ {S : Type 0} (see : S → Progress) (F : Functions S) (L : Offering see F) (r : Regime) (a : Access) (read : ℕ → Word) where
+module _ {S : Type 0} (see : S → Progress) (F : Functions S) (L : Offering see F) (r : Regime) (a : Access) (read : ℕ → Option ℕ) where
   -- a walk that has ended at its start
   at_once : {s u : S} {offers : List Offer} (e : Ended) → see s ≡ ended e → Fed see F s offers u → Beside r a read [] (ended e) → Beside r a read offers (see u)
   at_once {u = u} e q f h =
@@ -79,14 +77,14 @@ module _ {S : Type 0} (see : S → Progress) (F : Functions S) (L : Offering see
   pub beside : {s u : S} {offers : List Offer} → see s ≡ start r a → Fed see F s offers u → Reads read offers → Beside r a read offers (see u)
   beside {s = s} {u = u} {offers = offers} q f z = by (start_check r a) refl
     where
-      on_first : start_check r a ≡ Accepted → (x : First) → first_table r a.address.0 ≡ x → see s ≡ begun r a x → Beside r a read offers (see u)
-      on_first k (first.Fault kind) e g =
-          let h = plain_walked r a read k ∙ ap (along r a) (locate_first r read a.address.0 (first.Fault kind) e) in
+      on_first : start_check r a ≡ Ok tt → (x : First) → first_table r a.address.0 ≡ x → see s ≡ begun r a x → Beside r a read offers (see u)
+      on_first k (Err kind) e g =
+          let h = plain_walked r a read k ∙ ap (along r a) (locate_first r read a.address.0 (Err kind) e) in
           at_once (conclusion r a 0 (fault kind 0)) g f (ap (λ (x : Plain). x.visited) (sym h), ap (λ (x : Plain). x.end) (sym h))
-      on_first k (first.Table root) e g = from_first_lem r a read root k e offers (see u) (goes_along see F L read _ g k f z)
+      on_first k (Ok root) e g = from_first_lem r a read root k e offers (see u) (goes_along see F L read _ g k f z)
 
       by : (x : Checked) → start_check r a ≡ x → Beside r a read offers (see u)
-      by (Refused x) k =
+      by (Err x) k =
           let h = plain_refused r a read x k in
           at_once (declined x) (q ∙ start_refused r a x k) f (ap (λ (y : Plain). y.visited) (sym h), ap (λ (y : Plain). y.end) (sym h))
-      by Accepted k = on_first k (first_table r a.address.0) refl (q ∙ start_begun r a k)
+      by (Ok _) k = on_first k (first_table r a.address.0) refl (q ∙ start_begun r a k)

@@ -13,18 +13,13 @@ use Rattle.vmsa.specs.Answers.{Result, number_of}
 use Rattle.vmsa.proofs.Tables.{sum_below}
 use Rattle.vmsa.specs.declared.RegimeWords.{RegimeWords}
 use Rattle.vmsa.specs.declared.Refusal.TheVariants.{WalkEnded}
-use Rattle.checks.specs.declared.Checked.{Checked}
-use Rattle.checks.specs.declared.Checked.TheVariants.{Accepted, Refused}
+use Rattle.checks.specs.Order.{Checked}
+use Rattle.std.specs.Prelude.{Ok, Err, Option, Some, None}
 use Rattle.checks.specs.Order.{start_check}
-use Rattle.lookup.specs.declared.Word.{Word}
-use Rattle.lookup.specs.declared.Word.TheVariants.{Value, Unreachable}
-use Rattle.lookup.specs.declared.First.{First}
-use Rattle.lookup.specs.declared.First.TheVariants as first
+use Rattle.lookup.specs.Steps.{First}
 use Rattle.lookup.specs.Steps.{first_table}
 use Rattle.tlb.specs.Replies.{Told}
 use Rattle.stepwise.specs.declared.Wanting.{Wanting}
-use Rattle.stepwise.specs.declared.Due.{Due}
-use Rattle.stepwise.specs.declared.Due.TheVariants as due
 use Rattle.stepwise.specs.declared.Stepwise.{Stepwise}
 use Rattle.stepwise.specs.declared.Stepwise.TheVariants as stepwise
 use Rattle.stepwise.specs.declared.Offered.{Offered}
@@ -33,34 +28,34 @@ use Rattle.words.specs.declared.AccessWords.{AccessWords}
 use Rattle.words.specs.declared.AnswerWords.{AnswerWords}
 use Rattle.words.specs.Words.{access_of, access_spare0, words_of}
 use Rattle.step_words.specs.declared.StepwiseWords.{StepwiseWords}
-use Rattle.step_words.specs.declared.OfferedWords.{OfferedWords}
-use Rattle.step_words.specs.Words.{wanting_of, end_words, progress_words, offer_gives, offer_words}
+use Rattle.step_words.specs.Words.{wanting_of, end_words, progress_words, OfferedWords, offer_gives, offer_words}
 use Rattle.rules_c.proofs.Numbers.{result_in_lem}
 use Rattle.rules_stepwise.specs.Feeds.{Offer, Offering, Fed, none_yet, more}
 use Rattle.rules_stepwise.specs.Code.{reply_number, Made, valued, unreached, EndsOfCode, WalksOfCode, end_in, walk_in, MadeC, valued_c, unreached_c, EndsOfC, WalksOfC, StartedOfC, SpareOfStart}
 use Rattle.rules_stepwise.proofs.Lefts.{Left, refused, aborted, faulted, deeper, reached, left_by_lem}
 use Rattle.rules_stepwise.proofs.Promises.{ends, walks}
+use Rattle.stepwise.specs.declared.Update.{Update}
 
 -- ---- by value
 
-takes_goes : (s : Stepwise) (o : Word) (x : Offered) → Takes s o x → (w : Wanting) → seen s ≡ wanting w → (seen x.walk ≡ offered w o) × (reply_number x.reply ≡ 0)
+takes_goes : (s : Stepwise) (o : Option ℕ) (x : Offered) → Takes s o x → (w : Wanting) → seen s ≡ wanting w → (seen x.walk ≡ offered w o) × (reply_number x.reply ≡ 0)
 takes_goes (stepwise.Wanting v) o x h w q = let e : v ≡ w = cc in (h.0 ∙ ap (λ (k : Wanting). offered k o) e, ap reply_number h.1)
 takes_goes (stepwise.Ended c) o x h w q = clash (cc)
 
-takes_late : (s : Stepwise) (o : Word) (x : Offered) → Takes s o x → (e : Ended) → seen s ≡ ended e → (x.walk ≡ s) × (reply_number x.reply ≡ number_of WalkEnded)
+takes_late : (s : Stepwise) (o : Option ℕ) (x : Offered) → Takes s o x → (e : Ended) → seen s ≡ ended e → (x.walk ≡ s) × (reply_number x.reply ≡ number_of WalkEnded)
 takes_late (stepwise.Wanting v) o x h e q = clash (cc)
 takes_late (stepwise.Ended c) o x h e q = (ap (λ (y : Offered). y.walk) h, ap (λ (y : Offered). reply_number y.reply) h)
 
 made_offering : Offering seen Made
 made_offering = record { goes = goes; late = late }
   where
-    goes : (s : Stepwise) (o : Word) (t : Stepwise) (n : ℕ) → Made s o t n → (w : Wanting) → seen s ≡ wanting w → (seen t ≡ offered w o) × (n ≡ 0)
-    goes _ _ _ _ (valued s v x h) w q = takes_goes s (Value v) x h w q
-    goes _ _ _ _ (unreached s x h) w q = takes_goes s Unreachable x h w q
+    goes : (s : Stepwise) (o : Option ℕ) (t : Stepwise) (n : ℕ) → Made s o t n → (w : Wanting) → seen s ≡ wanting w → (seen t ≡ offered w o) × (n ≡ 0)
+    goes _ _ _ _ (valued s v x h) w q = takes_goes s (Some v) x h w q
+    goes _ _ _ _ (unreached s x h) w q = takes_goes s None x h w q
 
-    late : (s : Stepwise) (o : Word) (t : Stepwise) (n : ℕ) → Made s o t n → (e : Ended) → seen s ≡ ended e → (t ≡ s) × (n ≡ number_of WalkEnded)
-    late _ _ _ _ (valued s v x h) e q = takes_late s (Value v) x h e q
-    late _ _ _ _ (unreached s x h) e q = takes_late s Unreachable x h e q
+    late : (s : Stepwise) (o : Option ℕ) (t : Stepwise) (n : ℕ) → Made s o t n → (e : Ended) → seen s ≡ ended e → (t ≡ s) × (n ≡ number_of WalkEnded)
+    late _ _ _ _ (valued s v x h) e q = takes_late s (Some v) x h e q
+    late _ _ _ _ (unreached s x h) e q = takes_late s None x h e q
 
 pub ends_code : EndsOfCode
 ends_code = ends seen Made made_offering
@@ -81,10 +76,10 @@ read_wanting g a v h =
     let t : v.tables % sum_count ≡ v.tables = mod-eq_of_lt h.2 in
     λ i. wanting (record { regime = sym h.0 i; access = sym h.1 i; address = v.address; left = v.left; tables = t i })
 
-read_end : (g : RegimeWords) (a : AccessWords) (result : Result) (d : Due) → walk_in (end_words g a result d) ≡ ended (record { result = result; due = d })
+read_end : (g : RegimeWords) (a : AccessWords) (result : Result) (d : Option Update) → walk_in (end_words g a result d) ≡ ended (record { result = result; due = d })
 unfolding walk_in
-read_end g a result due.Nothing = λ i. ended (record { result = result_in_lem result i; due = due.Nothing })
-read_end g a result (due.Update u) = λ i. ended (record { result = result_in_lem result i; due = due.Update u })
+read_end g a result None = λ i. ended (record { result = result_in_lem result i; due = None })
+read_end g a result (Some u) = λ i. ended (record { result = result_in_lem result i; due = Some u })
 
 read_back : (g : RegimeWords) (a : AccessWords) (p : Progress) → Of g a p → walk_in (progress_words g a p) ≡ p
 unfolding progress_words
@@ -95,18 +90,18 @@ read_back g a (ended e) h = read_end g a e.result e.due
 
 of_first : (g : RegimeWords) (a : AccessWords) (f : First) → Of (regime_spare0 g) (access_spare0 a) (begun (regime_of g) (access_of a) f)
 unfolding regime_of access_of
-of_first g a (first.Fault kind) = tt
-of_first g a (first.Table root) = (refl, refl, lit< tt)
+of_first g a (Err kind) = tt
+of_first g a (Ok root) = (refl, refl, lit< tt)
 
 of_started : (g : RegimeWords) (a : AccessWords) (x : Checked) → Of (regime_spare0 g) (access_spare0 a) (started (regime_of g) (access_of a) x)
-of_started g a (Refused x) = tt
-of_started g a Accepted = of_first g a (first_table (regime_of g) (access_of a).address.0)
+of_started g a (Err x) = tt
+of_started g a (Ok _) = of_first g a (first_table (regime_of g) (access_of a).address.0)
 
 of_start : (g : RegimeWords) (a : AccessWords) → Of (regime_spare0 g) (access_spare0 a) (start (regime_of g) (access_of a))
 unfolding start
 of_start g a = of_started g a (start_check (regime_of g) (access_of a))
 
-of_left : (w : StepwiseWords) (o : Word) (p : Progress) → Left (wanting_of w) o p → Of w.regime w.access p
+of_left : (w : StepwiseWords) (o : Option ℕ) (p : Progress) → Left (wanting_of w) o p → Of w.regime w.access p
 unfolding wanting_of
 of_left w o p (refused x c) = tt
 of_left w o p (aborted c e) = tt
@@ -116,7 +111,7 @@ of_left w o p (deeper c v e table d) = (refl, refl, sum_below (w.tables % sum_co
 
 -- by whether it has ended
 
-says_goes : (w : StepwiseWords) (o : Word) (x : OfferedWords) → x ≡ offer_words w o → (b : Bool) → flag w.ended ≡ b → (v : Wanting) → walk_in w ≡ wanting v → (walk_in x.walk ≡ offered v o) × (x.refusal ≡ 0)
+says_goes : (w : StepwiseWords) (o : Option ℕ) (x : OfferedWords) → x ≡ offer_words w o → (b : Bool) → flag w.ended ≡ b → (v : Wanting) → walk_in w ≡ wanting v → (walk_in x.walk ≡ offered v o) × (x.refusal ≡ 0)
 unfolding walk_in
 says_goes w o x h true e v q = clash (let z : ended (end_in w) ≡ wanting v = sym (ap (λ (b : Bool). pick b (ended (end_in w)) (wanting (wanting_of w))) e) ∙ q in cc)
 says_goes w o x h false e v q =
@@ -128,7 +123,7 @@ says_goes w o x h false e v q =
       ap (λ (t : OfferedWords). t.refusal) k,
     )
 
-says_late : (w : StepwiseWords) (o : Word) (x : OfferedWords) → x ≡ offer_words w o → (b : Bool) → flag w.ended ≡ b → (n : Ended) → walk_in w ≡ ended n → (x.walk ≡ w) × (x.refusal ≡ number_of WalkEnded)
+says_late : (w : StepwiseWords) (o : Option ℕ) (x : OfferedWords) → x ≡ offer_words w o → (b : Bool) → flag w.ended ≡ b → (n : Ended) → walk_in w ≡ ended n → (x.walk ≡ w) × (x.refusal ≡ number_of WalkEnded)
 unfolding walk_in
 says_late w o x h false e n q = clash (let z : wanting (wanting_of w) ≡ ended n = sym (ap (λ (b : Bool). pick b (ended (end_in w)) (wanting (wanting_of w))) e) ∙ q in cc)
 says_late w o x h true e n q =
@@ -139,13 +134,13 @@ says_late w o x h true e n q =
 made_offering_c : Offering walk_in MadeC
 made_offering_c = record { goes = goes; late = late }
   where
-    goes : (s : StepwiseWords) (o : Word) (t : StepwiseWords) (n : ℕ) → MadeC s o t n → (w : Wanting) → walk_in s ≡ wanting w → (walk_in t ≡ offered w o) × (n ≡ 0)
-    goes _ _ _ _ (valued_c s v t n h) w q = says_goes s (Value v) (offer_gives n t) h (flag s.ended) refl w q
-    goes _ _ _ _ (unreached_c s t n h) w q = says_goes s Unreachable (offer_gives n t) h (flag s.ended) refl w q
+    goes : (s : StepwiseWords) (o : Option ℕ) (t : StepwiseWords) (n : ℕ) → MadeC s o t n → (w : Wanting) → walk_in s ≡ wanting w → (walk_in t ≡ offered w o) × (n ≡ 0)
+    goes _ _ _ _ (valued_c s v t n h) w q = says_goes s (Some v) (offer_gives n t) h (flag s.ended) refl w q
+    goes _ _ _ _ (unreached_c s t n h) w q = says_goes s None (offer_gives n t) h (flag s.ended) refl w q
 
-    late : (s : StepwiseWords) (o : Word) (t : StepwiseWords) (n : ℕ) → MadeC s o t n → (e : Ended) → walk_in s ≡ ended e → (t ≡ s) × (n ≡ number_of WalkEnded)
-    late _ _ _ _ (valued_c s v t n h) e q = says_late s (Value v) (offer_gives n t) h (flag s.ended) refl e q
-    late _ _ _ _ (unreached_c s t n h) e q = says_late s Unreachable (offer_gives n t) h (flag s.ended) refl e q
+    late : (s : StepwiseWords) (o : Option ℕ) (t : StepwiseWords) (n : ℕ) → MadeC s o t n → (e : Ended) → walk_in s ≡ ended e → (t ≡ s) × (n ≡ number_of WalkEnded)
+    late _ _ _ _ (valued_c s v t n h) e q = says_late s (Some v) (offer_gives n t) h (flag s.ended) refl e q
+    late _ _ _ _ (unreached_c s t n h) e q = says_late s None (offer_gives n t) h (flag s.ended) refl e q
 
 pub ends_c : EndsOfC
 ends_c = ends walk_in MadeC made_offering_c
@@ -169,11 +164,11 @@ unfolding progress_words
 kept g a (wanting v) = (refl, refl)
 kept g a (ended e) = by e.due
   where
-    by : (d : Due) → ((end_words g a e.result d).regime ≡ g) × ((end_words g a e.result d).access ≡ a)
-    by due.Nothing = (refl, refl)
-    by (due.Update u) = (refl, refl)
+    by : (d : Option Update) → ((end_words g a e.result d).regime ≡ g) × ((end_words g a e.result d).access ≡ a)
+    by None = (refl, refl)
+    by (Some u) = (refl, refl)
 
-settled_offer : (g : RegimeWords) (a : AccessWords) (w : StepwiseWords) (o : Word) (x : OfferedWords) → Settled g a w → x ≡ offer_words w o → Settled g a x.walk
+settled_offer : (g : RegimeWords) (a : AccessWords) (w : StepwiseWords) (o : Option ℕ) (x : OfferedWords) → Settled g a w → x ≡ offer_words w o → Settled g a x.walk
 settled_offer g a w o x h e = by (flag w.ended) refl
   where
     same : (w.regime ≡ g) × (w.access ≡ a)
@@ -188,9 +183,9 @@ settled_offer g a w o x h e = by (flag w.ended) refl
         subst (λ (v : RegimeWords). Settled v a x.walk) same.0 (subst (λ (v : AccessWords). Settled w.regime v x.walk) same.1
         (settled_by w.regime w.access (offered (wanting_of w) o) x.walk (of_left w o (offered (wanting_of w) o) (left_by_lem (wanting_of w) o)) (ap (λ (y : OfferedWords). y.walk) (is false k))))
 
-settled_made : (g : RegimeWords) (a : AccessWords) (s : StepwiseWords) (o : Word) (t : StepwiseWords) (n : ℕ) → Settled g a s → MadeC s o t n → Settled g a t
-settled_made g a _ _ _ _ h (valued_c s v t n k) = settled_offer g a s (Value v) (offer_gives n t) h k
-settled_made g a _ _ _ _ h (unreached_c s t n k) = settled_offer g a s Unreachable (offer_gives n t) h k
+settled_made : (g : RegimeWords) (a : AccessWords) (s : StepwiseWords) (o : Option ℕ) (t : StepwiseWords) (n : ℕ) → Settled g a s → MadeC s o t n → Settled g a t
+settled_made g a _ _ _ _ h (valued_c s v t n k) = settled_offer g a s (Some v) (offer_gives n t) h k
+settled_made g a _ _ _ _ h (unreached_c s t n k) = settled_offer g a s None (offer_gives n t) h k
 
 settled_fed : (g : RegimeWords) (a : AccessWords) {s t : StepwiseWords} {offers : List Offer} → Settled g a s → Fed walk_in MadeC s offers t → Settled g a t
 settled_fed g a h none_yet = h
@@ -201,9 +196,9 @@ answer_is : (g : RegimeWords) (a : AccessWords) (e : Ended) → (progress_words 
 unfolding progress_words
 answer_is g a e = by e.due
   where
-    by : (d : Due) → (end_words g a e.result d).answer ≡ words_of e.result
-    by due.Nothing = refl
-    by (due.Update u) = refl
+    by : (d : Option Update) → (end_words g a e.result d).answer ≡ words_of e.result
+    by None = refl
+    by (Some u) = refl
 
 pub started_c : StartedOfC
 started_c g a w h = record {

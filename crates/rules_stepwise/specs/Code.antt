@@ -1,5 +1,5 @@
 -- The promises (RULES 16.5) of the functions that a monitor calls: each call by what its own contract tells its caller.
-use Rattle.std.specs.Prelude.{ℕ, false, List, ◌≡◌, length}
+use Rattle.std.specs.Prelude.{ℕ, false, List, ◌≡◌, length, Ok, Err, Option, Some, None}
 use Rattle.descriptor.specs.Bits.{pick}
 use Rattle.vmsa.specs.Words.{flag, regime_of, regime_spare0}
 use Rattle.vmsa.specs.Answers.{number_of}
@@ -7,13 +7,9 @@ use Rattle.vmsa.specs.declared.Regime.{Regime}
 use Rattle.vmsa.specs.declared.RegimeWords.{RegimeWords}
 use Rattle.vmsa.specs.declared.Access.{Access}
 use Rattle.refusals.specs.Tests.{memory_pool_bad, pool_address_bad}
-use Rattle.checks.specs.declared.Checked.{Checked}
-use Rattle.checks.specs.declared.Checked.TheVariants.{Accepted, Refused}
-use Rattle.lookup.specs.declared.Word.{Word}
-use Rattle.lookup.specs.declared.Word.TheVariants.{Value, Unreachable}
+use Rattle.checks.specs.Order.{Checked}
 use Rattle.stepwise.specs.declared.Stepwise.{Stepwise}
 use Rattle.stepwise.specs.declared.Offered.{Offered}
-use Rattle.stepwise.specs.declared.Due.TheVariants as due
 use Rattle.stepwise.specs.Stepwise.{Ended, Progress, wanting, ended, seen}
 use Rattle.stepwise.proofs.Stepwise.start.Reads as Start
 use Rattle.stepwise.proofs.Stepwise.value.Reads as ValueOf
@@ -39,13 +35,13 @@ Begun r a s = Start.Learnt tt (r, (a, tt)) s (r, (a, tt))
 
 -- a reply as a number: 0, or that of the refusal
 abbrev pub reply_number : Checked → ℕ
-reply_number Accepted = 0
-reply_number (Refused x) = number_of x
+reply_number (Ok _) = 0
+reply_number (Err x) = number_of x
 
 -- s.value(v) and s.unreachable() left the walk of x, and its reply
-pub data Made : Stepwise → Word → Stepwise → ℕ → Type 0 where
-  valued : (s : Stepwise) (v : ℕ) (x : Offered) → ValueOf.Learnt tt (s, (v, tt)) x (s, (v, tt)) → Made s (Value v) x.walk (reply_number x.reply)
-  unreached : (s : Stepwise) (x : Offered) → UnreachableOf.Learnt tt (s, tt) x (s, tt) → Made s Unreachable x.walk (reply_number x.reply)
+pub data Made : Stepwise → Option ℕ → Stepwise → ℕ → Type 0 where
+  valued : (s : Stepwise) (v : ℕ) (x : Offered) → ValueOf.Learnt tt (s, (v, tt)) x (s, (v, tt)) → Made s (Some v) x.walk (reply_number x.reply)
+  unreached : (s : Stepwise) (x : Offered) → UnreachableOf.Learnt tt (s, tt) x (s, tt) → Made s None x.walk (reply_number x.reply)
 
 abbrev pub EndsOfCode : Type 0
 EndsOfCode = Ends seen Made
@@ -59,16 +55,16 @@ WalksOfCode = (r : Regime) (a : Access) (s : Stepwise) → Begun r a s → Walks
 abbrev pub end_in : StepwiseWords → Ended
 end_in w = record {
   result = result_in w.answer;
-  due = pick (flag w.update) (due.Update (record { address = record { 0 = w.address }; expected = w.expected; value = w.value })) due.Nothing;
+  due = pick (flag w.update) (Some (record { address = record { 0 = w.address }; expected = w.expected; value = w.value })) None;
 }
 
 unfoldable pub walk_in : StepwiseWords → Progress
 walk_in w = pick (flag w.ended) (ended (end_in w)) (wanting (wanting_of w))
 
 -- vmsa_stepwise_value and vmsa_stepwise_unreachable left w' of w, and returned n
-pub data MadeC : StepwiseWords → Word → StepwiseWords → ℕ → Type 0 where
-  valued_c : (w : StepwiseWords) (v : ℕ) (w' : StepwiseWords) (n : ℕ) → ValueSays w v w' n → MadeC w (Value v) w' n
-  unreached_c : (w w' : StepwiseWords) (n : ℕ) → UnreachableSays w w' n → MadeC w Unreachable w' n
+pub data MadeC : StepwiseWords → Option ℕ → StepwiseWords → ℕ → Type 0 where
+  valued_c : (w : StepwiseWords) (v : ℕ) (w' : StepwiseWords) (n : ℕ) → ValueSays w v w' n → MadeC w (Some v) w' n
+  unreached_c : (w w' : StepwiseWords) (n : ℕ) → UnreachableSays w w' n → MadeC w None w' n
 
 abbrev pub EndsOfC : Type 0
 EndsOfC = Ends walk_in MadeC

@@ -2,7 +2,7 @@
 use Prim.Native.Nat.{ℕ, ◌+◌, ◌-◌, ◌%◌, ◌≤◌}
 use mathlib.Core.Bool.{Bool, true, false, not, ◌||◌}
 use mathlib.Core.List.{List, ◌++◌}
-use mathlib.Core.Option.{Option, none, some}
+use Rattle.std.specs.Prelude.{Option, None, Some, Ok, Err}
 use mathlib.Core.Path.{◌≡◌, refl, sym, ap, subst, ◌∙◌}
 use native.Mathlib.Omega.{arith}
 use lib.Dec.{ltb, eqb}
@@ -13,31 +13,29 @@ use Rattle.descriptor.specs.Bits.{pick}
 use Rattle.descriptor.proofs.Tests.{or_false}
 use Rattle.descriptor.proofs.Laws.{put_part}
 use Rattle.vmsa.specs.Settings.{initial}
-use Rattle.vmsa.specs.Words.{flag, regime_of}
+use Rattle.vmsa.specs.Words.{flag, regime_of, regime_words}
+use Rattle.vmsa.specs.Answers.{number_of}
 use Rattle.vmsa.specs.declared.Regime.{Regime}
-use Rattle.vmsa.specs.declared.RegimeWords.{RegimeWords}
 use Rattle.vmsa.specs.declared.Pool.{Pool}
 use Rattle.vmsa.specs.declared.Access.{Access}
 use Rattle.vmsa.specs.declared.Leaf.{Leaf}
-use Rattle.vmsa.specs.declared.Refusal.TheVariants.{NoRegime}
+use Rattle.vmsa.specs.declared.Refusal.{Refusal}
 use Rattle.vmsa.proofs.Words.{regime_words_lem}
-use Rattle.checks.specs.declared.Checked.{Checked}
-use Rattle.checks.specs.declared.Checked.TheVariants.{Accepted, Refused}
+use Rattle.checks.specs.Order.{Checked}
 use Rattle.refusals.specs.Tests.{store_address_bad}
 use Rattle.checks.specs.Order.{memory_rows, setting_rows, store_rows, regime_check, session_store_check}
 use Rattle.checks.proofs.Accept.{clear, pooled}
 use Rattle.walk.proofs.Parts.{length_part}
-use Rattle.harvest.specs.Harvest.{Harvested, harvested, harvest as harvest_over}
-use Rattle.tlb.specs.Replies.{Reply, Told, told, reply_to, refused}
-use Rattle.tlb.specs.Walker.{no_regime, Entry, empty, entry_of, Walked, put_word, access_in}
+use Rattle.tlb.specs.Replies.{Reply, told, reply_to, done, refused}
+use Rattle.tlb.specs.Walker.{Entry, empty, entry_of, Walked, put_word, access_in}
 use Rattle.tlb.specs.Ours.{offset_of, ours}
-use Rattle.tlb.specs.Entries.{entry_view, no_entry, regime_in, page_for, entry_for, Filling, filling, filled_by, accessed_entry, entry_reply}
+use Rattle.tlb.specs.Entries.{entry_view, no_entry, regime_in, page_for, entry_for, Filling, filling, kept_entry, filled_by, accessed_entry, entry_reply}
 use Rattle.checks.proofs.Rows.{first_append}
 use Rattle.tlb.proofs.Walking.{put_is}
-use Rattle.tlb.proofs.Access.{kept_in, accessed_view, AnAnswer, answer_in, hit_is_access}
+use Rattle.tlb.proofs.Access.{accessed_is, kept_in, accessed_view, AnAnswer, answer_in, hit_is_access}
 use Rattle.session.specs.declared.Session.{Session as SessionStruct}
-use Rattle.session.specs.Model.{Session, handed, Stepped, keep, set_by, set_call, learn, access_with, access_call, store_by, store_in, Call, set_regime, access, store, drop_all, harvest, harvest_in, emptied_by, call}
-use Rattle.session.specs.View.{session_view, viewed, set_after, entry_in, with_entry, with_entries, accessed_session, emptied_after, harvest_of, harvest_leaves, leaves}
+use Rattle.session.specs.Model.{Session, handed, Stepped, keep, set_by, set_call, learn, access_with, access_call, store_by, store_in, Call, set_regime, access, store, drop_all, harvest, emptied_by, call}
+use Rattle.session.specs.View.{session_view, regime_held, viewed, set_to, set_after, entry_in, with_entry, with_entries, accessed_session, emptied_after, harvest_of, leaves}
 use Rattle.descriptor.proofs.Lists.{set_same, map_set}
 
 -- ---- a set regime
@@ -48,17 +46,23 @@ set_checked s m r = ap (set_by ours s m r) (sym (first_append (memory_rows (leng
 
 module _ (s : SessionStruct) (m : List ℕ) (r : Regime) where
   set_by_lem : (x : Checked) → handed (set_after s r x) m (reply_to x) ≡ handed (set_after s r x) (set_by ours (session_view s) m r x).memory (set_by ours (session_view s) m r x).reply
-  set_by_lem Accepted = refl
-  set_by_lem (Refused x) = refl
+  set_by_lem (Ok _) = refl
+  set_by_lem (Err x) = refl
 
   pub set_leaves : (x : Checked) → regime_check (length m) r ≡ x → handed (set_after s r x) m (reply_to x) ≡ leaves s m (set_regime r)
   set_leaves x e =
       subst (λ (y : Checked). handed (set_after s r y) m (reply_to y) ≡ leaves s m (set_regime r)) e
       (set_by_lem (regime_check (length m) r) ∙ ap (λ (y : Stepped). handed (set_after s r (regime_check (length m) r)) y.memory y.reply) (sym (set_checked (session_view s) m r)))
 
+  pub set_refused : (x : Refusal) → Err x ≡ regime_check (length m) r → handed s m (refused (number_of x)) ≡ leaves s m (set_regime r)
+  set_refused x e = set_leaves (Err x) (sym e)
+
+  pub set_accepted : Ok tt ≡ regime_check (length m) r → handed (set_to (regime_words r)) m done ≡ leaves s m (set_regime r)
+  set_accepted e = set_leaves (Ok tt) (sym e)
+
   set_view : (x : Checked) → session_view (set_after s r x) ≡ (set_by ours (session_view s) m r x).session
-  set_view Accepted = rw (regime_words_lem r)
-  set_view (Refused x) = refl
+  set_view (Ok _) = rw (regime_words_lem r)
+  set_view (Err x) = refl
 
 -- ---- a store
 
@@ -81,7 +85,7 @@ storable_by pool address e =
       ltb-false (pool.address.0 + pool.length) (address + 8) s3.1,
     )
 
-pub store_accepted : (n : ℕ) (r : Regime) (address : ℕ) → session_store_check n r address ≡ Accepted → Storable n r.pool address
+pub store_accepted : (n : ℕ) (r : Regime) (address : ℕ) → session_store_check n r address ≡ Ok tt → Storable n r.pool address
 unfolding session_store_check
 store_accepted n r address e =
     let c = clear (memory_rows n r ++ store_rows r.pool address) e in
@@ -102,72 +106,51 @@ pub store_room : (r : Regime) (m : List ℕ) (address k : ℕ) → Storable (len
     → (address - r.pool.address.0) + 8 ≤ length (take k (drop r.pool.start m))
 store_room r m address k h q = rw (q, length_part m r.pool.start r.pool.length h.fits) (omega (arith, h.least, h.most))
 
-module _ (regime : RegimeWords) (set address value : ℕ) (m : List ℕ) where
-  abbrev storing : Bool → Told Reply
-  storing b = store_in ours (pick b (some (regime_of regime)) none) m address value
-
-  pub store_unset : flag set ≡ false → told (refused no_regime) m ≡ store_in ours (regime_in regime set) m address value
-  store_unset f = ap storing (sym f)
-
-  pub store_set : flag set ≡ true → (r : Regime) → r ≡ regime_of regime → (x : Checked) → session_store_check (length m) r address ≡ x
-      → store_by ours r m address value x ≡ store_in ours (regime_in regime set) m address value
+module _ (r : Regime) (m : List ℕ) (address value : ℕ) where
+  store_set : (x : Checked) → x ≡ session_store_check (length m) r address → store_by ours r m address value x ≡ store_in ours (Some r) m address value
   unfolding session_store_check
-  store_set f r q x h =
-      ap (store_by ours r m address value) (sym h ∙ first_append (memory_rows (length m) r) (store_rows r.pool address))
-      ∙ ap (λ (y : Regime). store_in ours (some y) m address value) q ∙ ap storing (sym f)
+  store_set x h = ap (store_by ours r m address value) (h ∙ first_append (memory_rows (length m) r) (store_rows r.pool address))
 
-pub store_leaves : (s : SessionStruct) (m : List ℕ) (address value : ℕ) (t : Told Reply) → t ≡ store_in ours (regime_in s.regime s.set) m address value
-    → handed s t.memory t.reply ≡ leaves s m (store address value)
-store_leaves s m address value t e = ap (λ (x : Told Reply). handed s x.memory x.reply) e
+  pub store_refused : (x : Refusal) → Err x ≡ session_store_check (length m) r address → told (refused (number_of x)) m ≡ store_in ours (Some r) m address value
+  store_refused x h = store_set (Err x) h
+
+  -- the pool's part of the memory with the value in it
+  pub store_done : Ok tt ≡ session_store_check (length m) r address → (x : List ℕ) (k : ℕ) → k ≡ r.pool.length
+      → x ≡ put r.ee (take k (drop r.pool.start m)) (address - r.pool.address.0) value
+      → told done (take r.pool.start m ++ (x ++ drop k (drop r.pool.start m))) ≡ store_in ours (Some r) m address value
+  store_done h x k q e = ap (told done) (stored r m address value (store_accepted (length m) r address (sym h)) x k q e) ∙ store_set (Ok tt) h
 
 -- ---- a harvest
 
-module _ (regime : RegimeWords) (set first count : ℕ) (m map : List ℕ) where
-  abbrev harvesting : Bool → Harvested Checked
-  harvesting b = harvest_in ours (pick b (some (regime_of regime)) none) first count m map
-
-  pub harvest_unset : flag set ≡ false → harvested (Refused NoRegime) m map ≡ harvest_in ours (regime_in regime set) first count m map
-  harvest_unset f = ap harvesting (sym f)
-
-  pub harvest_set : flag set ≡ true → (r : Regime) → r ≡ regime_of regime → harvest_over r first count m map ≡ harvest_in ours (regime_in regime set) first count m map
-  harvest_set f r q = ap (λ (y : Regime). harvest_in ours (some y) first count m map) q ∙ ap harvesting (sym f)
-
--- by what the harvest handed back, and by which case of it that was
-pub harvest_leaves_lem : (s : SessionStruct) (first count : ℕ) (m map after filled : List ℕ) (x y : Checked) → x ≡ y
-    → harvested x after filled ≡ harvest_in ours (regime_in s.regime s.set) first count m map
-    → (emptied_after s y, harvested y after filled) ≡ harvest_leaves s first count m map
-harvest_leaves_lem s first count m map after filled x y q e =
-    ap (λ (h : Harvested Checked). (emptied_after s h.reply, h)) (ap (λ (z : Checked). harvested z after filled) (sym q) ∙ e)
-
 emptied_view : (s : SessionStruct) (x : Checked) → session_view (emptied_after s x) ≡ emptied_by ours (session_view s) x
-emptied_view s Accepted = refl
-emptied_view s (Refused x) = refl
+emptied_view s (Ok _) = refl
+emptied_view s (Err x) = refl
 
 -- ---- an access, by the one entry that it can change
 
 keep_at : (l : List Entry) (page : ℕ) (x : Entry) → get_or l (entry_of page) empty ≡ x → (k : Option Leaf) → set_at l (entry_of page) (kept_in x page k) ≡ keep l page k
-keep_at l page x q none = subst (λ (y : Entry). set_at l (entry_of page) y ≡ l) q (set_same l (entry_of page) empty)
-keep_at l page x q (some leaf) = refl
+keep_at l page x q None = subst (λ (y : Entry). set_at l (entry_of page) y ≡ l) q (set_same l (entry_of page) empty)
+keep_at l page x q (Some leaf) = refl
 
 -- a regime by whose granule the page of an access is counted: the session's, and any where it has none, since then nothing is kept
 abbrev pub By : Option Regime → Regime → Type 0
-By none r = Unit {0}
-By (some q) r = q ≡ r
+By None r = Unit {0}
+By (Some q) r = q ≡ r
 
 -- one for every session of the model
 abbrev pub regime_or : Option Regime → Regime
-regime_or none = initial
-regime_or (some r) = r
+regime_or None = initial
+regime_or (Some r) = r
 
 pub by_or : (g : Option Regime) → By g (regime_or g)
-by_or none = tt
-by_or (some r) = refl
+by_or None = tt
+by_or (Some r) = refl
 
 -- an access of the model, by its page's entry
 pub access_learn : (s : Session) (m : List ℕ) (a : Access) (r : Regime) (g : Option Regime) → By g r
     → learn ours s (page_for r a) (access_in ours g m a (get_or s.entries (entry_for r a) empty)) ≡ access_with ours s m a g
-access_learn s m a r none e = refl
-access_learn s m a r (some q) e = subst (λ (x : Regime). learn ours s (page_for x a) (access_in ours (some q) m a (get_or s.entries (entry_for x a) empty)) ≡ access_with ours s m a (some q)) e refl
+access_learn s m a r None e = refl
+access_learn s m a r (Some q) e = subst (λ (x : Regime). learn ours s (page_for x a) (access_in ours (Some q) m a (get_or s.entries (entry_for x a) empty)) ≡ access_with ours s m a (Some q)) e refl
 
 -- its reply is an answer's
 pub access_answer : (s : Session) (m : List ℕ) (a : Access) → AnAnswer (call ours s m (access a)).reply
@@ -179,7 +162,7 @@ module _ (s : SessionStruct) (m : List ℕ) (a : Access) where
   abbrev r : Regime
   r = regime_of s.regime
 
-  by_in : (b : Bool) → By (pick b (some r) none) r
+  by_in : (b : Bool) → By (pick b (Some r) None) r
   by_in true = refl
   by_in false = tt
 
@@ -195,29 +178,39 @@ module _ (s : SessionStruct) (m : List ℕ) (a : Access) where
       ap (λ (e : Entry). learn ours (session_view s) (page_for r a) (access_in ours (regime_in s.regime s.set) m a e)) (sym entry_view_lem)
       ∙ access_learn (session_view s) m a r (regime_in s.regime s.set) (by_in (flag s.set))
 
-  pub entry_leaves : (x : Filling Reply) → x ≡ accessed_entry s.regime s.set (entry_in s a) m a → handed (with_entry s (entry_for r a) x.entry) x.memory x.reply ≡ leaves s m (access a)
+  -- what it leaves of the entry, and the walk's part of that
+  filled_is : accessed_entry (regime_held s) (entry_in s a) m a ≡ filled_by (entry_in s a) r a given
+  filled_is = accessed_is s.regime s.set (entry_in s a) m a
+
+  pub entry_leaves : (x : Filling Reply) → x ≡ accessed_entry (regime_held s) (entry_in s a) m a → handed (with_entry s (entry_for r a) x.entry) x.memory x.reply ≡ leaves s m (access a)
   entry_leaves x e =
       ap (λ (y : Filling Reply). handed (with_entry s (entry_for r a) y.entry) y.memory y.reply) e
+      ∙ ap (λ (y : Filling Reply). handed (accessed_session s m a) y.memory y.reply) filled_is
       ∙ ap (λ (y : Stepped). handed (accessed_session s m a) y.memory y.reply) access_is
 
   -- an entry put where it lies already
   with_same : with_entry s (entry_for r a) (entry_in s a) ≡ s
   with_same = ap (with_entries s) (set_same s.entries (entry_for r a) no_entry)
 
+  -- the entry of the page keeps the leaf that the access gives
+  pub kept_is : accessed_session s m a ≡ with_entry s (entry_for r a) (kept_entry (entry_in s a) (page_for r a) given.kept)
+  kept_is = ap (λ (y : Filling Reply). with_entry s (entry_for r a) y.entry) filled_is
+
   -- where nothing is kept, the session stays as it was
-  pub unkept_same : given.kept ≡ none → accessed_session s m a ≡ s
-  unkept_same q = ap (λ (k : Option Leaf). with_entry s (entry_for r a) (filled_by (entry_in s a) r a (record { reply = given.reply; memory = given.memory; kept = k })).entry) q ∙ with_same
+  pub unkept_same : given.kept ≡ None → accessed_session s m a ≡ s
+  unkept_same q = kept_is ∙ ap (λ (k : Option Leaf). with_entry s (entry_for r a) (kept_entry (entry_in s a) (page_for r a) k)) q ∙ with_same
 
   -- a reply that the entry gives
-  pub hit_leaves : (reply : Reply) → some reply ≡ entry_reply (length m) a (entry_view (entry_in s a)) (regime_in s.regime s.set) → handed s m reply ≡ leaves s m (access a)
+  pub hit_leaves : (reply : Reply) → Some reply ≡ entry_reply (length m) a (entry_view (entry_in s a)) (regime_in s.regime s.set) → handed s m reply ≡ leaves s m (access a)
   hit_leaves reply h =
       ap (λ (t : SessionStruct). handed t m reply) (sym with_same)
-      ∙ entry_leaves (filling (entry_in s a) m reply) (ap (filled_by (entry_in s a) r a) (hit_is_access (regime_in s.regime s.set) m a (entry_view (entry_in s a)) reply h))
+      ∙ entry_leaves (filling (entry_in s a) m reply) (ap (filled_by (entry_in s a) r a) (hit_is_access (regime_in s.regime s.set) m a (entry_view (entry_in s a)) reply h) ∙ sym filled_is)
 
   access_view : session_view (accessed_session s m a) ≡ (access_call ours (session_view s) m a).session
   access_view =
       ap (λ (l : List Entry). let t : Session = record { regime = (session_view s).regime; entries = l } in t)
-      (map_set entry_view s.entries (entry_for r a) (accessed_entry s.regime s.set (entry_in s a) m a).entry
+      (map_set entry_view s.entries (entry_for r a) (accessed_entry (regime_held s) (entry_in s a) m a).entry
+      ∙ ap (λ (y : Filling Reply). set_at (session_view s).entries (entry_for r a) (entry_view y.entry)) filled_is
       ∙ ap (set_at (session_view s).entries (entry_for r a)) (accessed_view (regime_in s.regime s.set) m a (entry_in s a) (page_for r a))
       ∙ keep_at (session_view s).entries (page_for r a) (entry_view (entry_in s a)) entry_view_lem given.kept)
       ∙ ap (λ (y : Stepped). y.session) access_is

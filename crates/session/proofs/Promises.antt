@@ -11,13 +11,13 @@ use Rattle.vmsa.specs.declared.Regime.{Regime}
 use Rattle.vmsa.specs.declared.Access.{Access}
 use Rattle.vmsa.specs.declared.PhysAddr.{PhysAddr}
 use Rattle.vmsa.proofs.Answers.{number_settles}
-use Rattle.checks.specs.declared.Checked.{Checked}
-use Rattle.checks.specs.declared.Checked.TheVariants.{Accepted, Refused}
+use Rattle.checks.specs.Order.{Checked}
+use Rattle.std.specs.Prelude.{Ok, Err}
 use Rattle.tlb.specs.Replies.{Reply, done, reply_of, reply_to, harvest_reply}
 use Rattle.tlb.proofs.Access.{AnAnswer, reply_settles}
 use Rattle.session.specs.declared.Session.{Session as SessionStruct}
-use Rattle.session.specs.declared.Changed.{Changed}
-use Rattle.session.specs.declared.Accessed.{Accessed}
+use Rattle.session.specs.View.{Changed}
+use Rattle.session.specs.View.{Accessed}
 use Rattle.harvest.specs.Harvest.{Harvested, harvested}
 use Rattle.session.specs.Model.{Handed, handed, set_regime, access, store, drop_all, harvest}
 use Rattle.session.specs.View.{session_view, empty_session, leaves, harvest_leaves}
@@ -40,7 +40,7 @@ module _ (lives : Lfts 1) (s : SessionStruct) (memory : Bor (List ℕ)) where
 
 module _ (lives : Lfts 1) (s : SessionStruct) (memory : MutBor (List ℕ)) where
   pub access_promise : (a : Access) (after : List ℕ) (x : Accessed) → AccessOf.Learnt lives (s, (memory, (a, tt))) x (s, (at_last memory after, (a, tt)))
-      → handed x.session after (reply_of (view x.answer)) ≡ leaves s memory.now (access a)
+      → handed x.session after (reply_of (view x.reply)) ≡ leaves s memory.now (access a)
   access_promise a after x h = h
 
   pub store_promise : (address : PhysAddr) (value : ℕ) (after : List ℕ) (x : Changed)
@@ -66,10 +66,10 @@ harvest_handed s s' first count m map after filled x e =
 -- ---- and that is one result, each part of it: no two results meet a contract
 
 pub reply_one : (x y : Checked) → reply_to x ≡ reply_to y → x ≡ y
-reply_one Accepted Accepted e = refl
-reply_one Accepted (Refused y) e = clash (cc)
-reply_one (Refused x) Accepted e = clash (cc)
-reply_one (Refused x) (Refused y) e = let z : number_of x ≡ number_of y = cc in ap Refused (number_settles x y z)
+reply_one (Ok _) (Ok _) e = refl
+reply_one (Ok _) (Err y) e = clash (cc)
+reply_one (Err x) (Ok _) e = clash (cc)
+reply_one (Err x) (Err y) e = let z : number_of x ≡ number_of y = cc in ap Err (number_settles x y z)
 
 changed_one : (m n : List ℕ) (x y : Changed) → handed x.session m (reply_to x.reply) ≡ handed y.session n (reply_to y.reply) → (x ≡ y) × (m ≡ n)
 changed_one m n x y e =
@@ -88,9 +88,9 @@ module _ (lives : Lfts 1) (s : SessionStruct) (memory : MutBor (List ℕ)) where
   access_one a m n x y h k =
       let p = access_promise lives s memory a m x h in
       let e = p ∙ sym (access_promise lives s memory a n y k) in
-      let h' : AnAnswer (reply_of (view x.answer)) = subst⁻¹ AnAnswer (ap (λ (t : Handed SessionStruct Reply). t.reply) p) (access_answer (session_view s) memory.now a) in
-      let r = reply_settles x.answer y.answer h' (ap (λ (t : Handed SessionStruct Reply). t.reply) e) in
-      let z : x ≡ y = λ i. record { session = (e i).session; answer = r i } in
+      let h' : AnAnswer (reply_of (view x.reply)) = subst⁻¹ AnAnswer (ap (λ (t : Handed SessionStruct Reply). t.reply) p) (access_answer (session_view s) memory.now a) in
+      let r = reply_settles x.reply y.reply h' (ap (λ (t : Handed SessionStruct Reply). t.reply) e) in
+      let z : x ≡ y = λ i. record { session = (e i).session; reply = r i } in
       (z, ap (λ (t : Handed SessionStruct Reply). t.memory) e)
 
   pub store_one : (address : PhysAddr) (value : ℕ) (m n : List ℕ) (x y : Changed)

@@ -1,12 +1,10 @@
 -- The session (RULES 10): its five calls as functions on a session and a memory, over any walker.
-use Rattle.std.specs.Prelude.{ℕ, List, length, get_or, set, replicate}
-use Rattle.std.proofs.Math.Option.{Option, none, some}
+use Rattle.std.specs.Prelude.{ℕ, List, length, get_or, set, replicate, Option, None, Some, Ok, Err}
 use Rattle.vmsa.specs.Answers.{number_of}
 use Rattle.vmsa.specs.declared.Regime.{Regime}
 use Rattle.vmsa.specs.declared.Access.{Access}
 use Rattle.vmsa.specs.declared.Leaf.{Leaf}
-use Rattle.checks.specs.declared.Checked.{Checked}
-use Rattle.checks.specs.declared.Checked.TheVariants.{Accepted, Refused}
+use Rattle.checks.specs.Order.{Checked}
 use Rattle.tlb.specs.Replies.{Reply, done, refused, Told, told, harvest_reply}
 use Rattle.checks.specs.Order.{and_then}
 use Rattle.vmsa.specs.declared.Refusal.TheVariants.{NoRegime}
@@ -23,8 +21,8 @@ held entries page = held_in (get_or entries (entry_of page) empty) page
 
 -- a leaf that may be remembered fills its page's entry
 abbrev pub keep : List Entry → ℕ → Option Leaf → List Entry
-keep entries page none = entries
-keep entries page (some leaf) = set entries (entry_of page) (holds page leaf)
+keep entries page None = entries
+keep entries page (Some leaf) = set entries (entry_of page) (holds page leaf)
 
 -- a session: the regime last accepted, and the entries. A fresh session has neither
 pub record Session : Type 0 where
@@ -32,7 +30,7 @@ pub record Session : Type 0 where
   pub entries : List Entry
 
 abbrev pub fresh : Session
-fresh = record { regime = none; entries = no_entries }
+fresh = record { regime = None; entries = no_entries }
 
 -- what a call leaves: the session, in whatever form S; the memory; and what it hands back
 pub record Handed (S A : Type 0) : Type 0 where
@@ -67,8 +65,8 @@ module _ (W : Walker) where
   -- ---- set regime: accepted, it empties every entry
 
   abbrev pub set_by : Session → List ℕ → Regime → Checked → Stepped
-  set_by s m R Accepted = handed (record { regime = some R; entries = no_entries }) m done
-  set_by s m R (Refused x) = stay s (refusal m (number_of x))
+  set_by s m R (Ok _) = handed (record { regime = Some R; entries = no_entries }) m done
+  set_by s m R (Err x) = stay s (refusal m (number_of x))
 
   abbrev pub set_call : Session → List ℕ → Regime → Stepped
   set_call s m R = set_by s m R (and_then (memory_check R (length m)) (setting_check R))
@@ -79,8 +77,8 @@ module _ (W : Walker) where
   learn s p w = handed (record { regime = s.regime; entries = keep s.entries p w.kept }) w.memory w.reply
 
   abbrev pub access_with : Session → List ℕ → Access → Option Regime → Stepped
-  access_with s m a none = stay s (refusal m no_regime)
-  access_with s m a (some R) = learn s (page R a) (access_under W R m a (held s.entries (page R a)))
+  access_with s m a None = stay s (refusal m no_regime)
+  access_with s m a (Some R) = learn s (page R a) (access_under W R m a (held s.entries (page R a)))
 
   abbrev pub access_call : Session → List ℕ → Access → Stepped
   access_call s m a = access_with s m a s.regime
@@ -88,12 +86,12 @@ module _ (W : Walker) where
   -- ---- store: accepted, the value given stands in its 8 bytes of the pool, in the byte order of the regime
 
   abbrev pub store_by : Regime → List ℕ → ℕ → ℕ → Checked → Told Reply
-  store_by R m address value Accepted = told done (put_word W R m (offset R address) value)
-  store_by R m address value (Refused x) = refusal m (number_of x)
+  store_by R m address value (Ok _) = told done (put_word W R m (offset R address) value)
+  store_by R m address value (Err x) = refusal m (number_of x)
 
   abbrev pub store_in : Option Regime → List ℕ → ℕ → ℕ → Told Reply
-  store_in none m address value = refusal m no_regime
-  store_in (some R) m address value = store_by R m address value (and_then (memory_check R (length m)) (store_check R address))
+  store_in None m address value = refusal m no_regime
+  store_in (Some R) m address value = store_by R m address value (and_then (memory_check R (length m)) (store_check R address))
 
   abbrev pub store_call : Session → List ℕ → ℕ → ℕ → Stepped
   store_call s m address value = stay s (store_in s.regime m address value)
@@ -106,12 +104,12 @@ module _ (W : Walker) where
   -- ---- harvest: the plain harvest under the session's regime; accepted, it empties every entry
 
   abbrev pub harvest_in : Option Regime → ℕ → ℕ → List ℕ → List ℕ → Harvested Checked
-  harvest_in none first count m map = harvested (Refused NoRegime) m map
-  harvest_in (some R) first count m map = W.harvest R first count m map
+  harvest_in None first count m map = harvested (Err NoRegime) m map
+  harvest_in (Some R) first count m map = W.harvest R first count m map
 
   abbrev pub emptied_by : Session → Checked → Session
-  emptied_by s Accepted = record { regime = s.regime; entries = no_entries }
-  emptied_by s (Refused x) = s
+  emptied_by s (Ok _) = record { regime = s.regime; entries = no_entries }
+  emptied_by s (Err x) = s
 
   abbrev pub harvest_to : Session → Harvested Checked → Stepped
   harvest_to s h = handed (emptied_by s h.reply) h.memory (harvest_reply h.reply h.map)

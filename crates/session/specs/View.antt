@@ -1,13 +1,12 @@
 -- The session of the code (RULES 10): in the model's values, and each number of it that a call leaves.
-use Rattle.std.specs.Prelude.{ℕ, List, map, length, get_or, set as set_at, replicate}
-use Rattle.std.proofs.Math.Option.{Option}
+use Rattle.std.specs.Prelude.{ℕ, List, map, length, get_or, set as set_at, replicate, Option, Ok, Err}
 use Rattle.vmsa.specs.Settings.{initial}
 use Rattle.vmsa.specs.Words.{regime_of, regime_words}
 use Rattle.vmsa.specs.declared.RegimeWords.{RegimeWords}
 use Rattle.vmsa.specs.declared.Regime.{Regime}
 use Rattle.vmsa.specs.declared.Access.{Access}
-use Rattle.checks.specs.declared.Checked.{Checked}
-use Rattle.checks.specs.declared.Checked.TheVariants.{Accepted, Refused}
+use Rattle.vmsa.specs.declared.Answer.{Answer}
+use Rattle.checks.specs.Order.{Checked}
 use Rattle.checks.specs.Order.{regime_check}
 use Rattle.tlb.specs.declared.Entry.{Entry as EntryStruct}
 use Rattle.tlb.specs.Replies.{Reply}
@@ -15,8 +14,16 @@ use Rattle.tlb.specs.Walker.{entry_count}
 use Rattle.tlb.specs.Ours.{ours}
 use Rattle.tlb.specs.Entries.{entry_view, no_entry, regime_in, entry_for, accessed_entry}
 use Rattle.session.specs.declared.Session.{Session as SessionStruct}
+use Rattle.session.specs.declared.HandedBack.{HandedBack}
 use Rattle.harvest.specs.Harvest.{Harvested}
 use Rattle.session.specs.Model.{Session, Handed, handed, Stepped, Call, set_regime, access, store, drop_all, harvest, harvest_in, call}
+
+-- what a set regime, a store or a harvest hands back, and what an access does
+abbrev pub Changed : Type 0
+Changed = HandedBack Checked
+
+abbrev pub Accessed : Type 0
+Accessed = HandedBack Answer
 
 abbrev pub session_view : SessionStruct → Session
 session_view s = record { regime = regime_in s.regime s.set; entries = map entry_view s.entries }
@@ -51,8 +58,8 @@ abbrev pub set_to : RegimeWords → SessionStruct
 set_to regime = bare regime 1
 
 abbrev pub set_after : SessionStruct → Regime → Checked → SessionStruct
-set_after s r Accepted = set_to (regime_words r)
-set_after s r (Refused x) = s
+set_after s r (Ok _) = set_to (regime_words r)
+set_after s r (Err x) = s
 
 -- an access: at most the entry of its page, which is counted by the granule of the session's regime, is replaced
 abbrev pub number_in : SessionStruct → Access → ℕ
@@ -65,7 +72,7 @@ abbrev pub with_entry : SessionStruct → ℕ → EntryStruct → SessionStruct
 with_entry s i e = with_entries s (set_at s.entries i e)
 
 abbrev pub accessed_session : SessionStruct → List ℕ → Access → SessionStruct
-accessed_session s m a = with_entry s (number_in s a) (accessed_entry s.regime s.set (entry_in s a) m a).entry
+accessed_session s m a = with_entry s (number_in s a) (accessed_entry (regime_held s) (entry_in s a) m a).entry
 
 -- a drop all: every entry is the empty one
 abbrev pub emptied : SessionStruct → SessionStruct
@@ -73,8 +80,8 @@ emptied s = with_entries s empty_entries
 
 -- a harvest: accepted, every entry is the empty one; refused, the session given
 abbrev pub emptied_after : SessionStruct → Checked → SessionStruct
-emptied_after s Accepted = emptied s
-emptied_after s (Refused x) = s
+emptied_after s (Ok _) = emptied s
+emptied_after s (Err x) = s
 
 abbrev pub harvest_of : SessionStruct → ℕ → ℕ → List ℕ → List ℕ → Harvested Checked
 harvest_of s first count m map = harvest_in ours (regime_held s) first count m map

@@ -5,16 +5,14 @@ ghost use Rattle.std.specs.Prelude.{◌≡◌};
 ghost use Rattle.vmsa.specs.Answers.{view};
 ghost use Rattle.tlb.specs.Replies.{told, reply_of, reply_to};
 ghost use Rattle.tlb.specs.Ours.{ours};
-ghost use Rattle.tlb.specs.Entries.{regime_in};
 ghost use Rattle.harvest.specs.Harvest.{harvested};
 ghost use Rattle.session.specs.Model.{handed, set_regime, access, store, store_in, harvest_in};
-ghost use Rattle.session.specs.View.{empty_session, emptied, leaves, harvest_leaves};
+ghost use Rattle.session.specs.View.{regime_held, empty_session, emptied, leaves, harvest_leaves};
 
-use checks::Checked;
 use tlb::{ENTRIES, Entry};
 use vmsa::{Access, Answer, PhysAddr, Refusal, Regime, RegimeWords};
 
-// A session: the regime last accepted, where set is not 0, and the entries. All numbers, so that any bytes are a session; the spare ones have no say.
+// A session: the regime last accepted, where set is not 0, and the entries, in fixed memory. The C interface: all numbers, so that any bytes are a session; the spare ones have no say.
 #[repr(C)]
 #[derive(Clone, Copy)]
 pub struct Session {
@@ -26,63 +24,55 @@ pub struct Session {
     pub spare32: u32,
 }
 
-// What a set regime, a store or a harvest hands back.
+// What a call hands back: the session, and its reply.
 #[derive(Clone, Copy)]
-pub struct Changed {
+pub struct HandedBack<T> {
     pub session: Session,
-    pub reply: Checked,
+    pub reply: T,
 }
 
-// What an access hands back.
-#[derive(Clone, Copy)]
-pub struct Accessed {
-    pub session: Session,
-    pub answer: Answer,
+impl<T> HandedBack<T> {
+    // Stores the session where the old one lies, and leaves the reply.
+    pub fn put_back(self, session: &mut Session) -> T
+        ensures session { session.new ≡ self.session }
+        ensures reply { result ≡ self.reply }
+    {
+        *session = self.session;
+        self.reply
+    }
 }
 
-// A store in every session that has this regime, which stays as it was: refused, or else done.
+// A store in every session that has this regime, if any, which stays as it was: refused, or else done.
+#[tactic(auto, using(crate::proofs::Calls::store_accepted, crate::proofs::Calls::store_room, crate::proofs::Calls::store_refused, crate::proofs::Calls::store_done))]
 pub fn store_in(
-    regime: RegimeWords,
-    set: u8,
+    regime: Option<Regime>,
     memory: &mut [u8],
     address: PhysAddr,
     value: u64,
-) -> Checked
-    ensures { told (reply_to result) memory.new ≡ store_in ours (regime_in regime set) memory.old address.0 value }
+) -> Result<(), Refusal>
+    ensures { told (reply_to result) memory.new ≡ store_in ours regime memory.old address.0 value }
 {
-    if set == 0 {
-        return Checked::Refused(Refusal::NoRegime);
-    }
-    let r = regime.regime();
+    let r = regime.ok_or(Refusal::NoRegime)?;
     let pool = r.pool;
-    match checks::check_session_store(memory.len(), r, address) {
-        Checked::Refused(refusal) => Checked::Refused(refusal),
-        Checked::Accepted => {
-            let start = pool.start;
-            let end = start + pool.length;
-            let offset = (address.0 - pool.address.0) as usize;
-            descriptor::store(&mut memory[start..end], offset, value, r.ee);
-            Checked::Accepted
-        }
-    }
+    checks::check_session_store(memory.len(), r, address)?;
+    let start = pool.start;
+    let end = start + pool.length;
+    let offset = (address.0 - pool.address.0) as usize;
+    descriptor::store(&mut memory[start..end], offset, value, r.ee);
+    Ok(())
 }
 
-// A harvest in every session that has this regime: refused, or else done.
+// A harvest in every session that has this regime, if any: refused, or else done.
 pub fn harvest_in(
-    regime: RegimeWords,
-    set: u8,
+    regime: Option<Regime>,
     memory: &mut [u8],
     first: u64,
     count: u64,
     map: &mut [u8],
-) -> Checked
-    ensures { harvested result memory.new map.new ≡ harvest_in ours (regime_in regime set) first count memory.old map.old }
+) -> Result<(), Refusal>
+    ensures { harvested result memory.new map.new ≡ harvest_in ours regime first count memory.old map.old }
 {
-    if set != 0 {
-        let r = regime.regime();
-        return harvest::harvest(memory, r, first, count, map);
-    }
-    Checked::Refused(Refusal::NoRegime)
+    harvest::harvest(memory, regime.ok_or(Refusal::NoRegime)?, first, count, map)
 }
 
 impl Session {
@@ -92,7 +82,7 @@ impl Session {
     {
         let entry = Entry::empty();
         Session {
-            regime: RegimeWords::of(Regime::new()),
+            regime: RegimeWords::from(Regime::new()),
             entries: [entry; ENTRIES],
             set: 0,
             spare8: 0,
@@ -101,18 +91,29 @@ impl Session {
         }
     }
 
+    // The regime that it holds, where one is set.
+    pub fn regime_held(&self) -> Option<Regime>
+        ensures { result ≡ regime_held self.now }
+    {
+        if self.set == 0 {
+            return None;
+        }
+        Some(Regime::from(self.regime))
+    }
+
     // Sets the regime and empties every entry, where the checks let it through.
-    pub fn set_regime(self, memory: &[u8], r: Regime) -> Changed
+    #[tactic(auto, using(crate::proofs::Calls::set_refused, crate::proofs::Calls::set_accepted))]
+    pub fn set_regime(self, memory: &[u8], r: Regime) -> HandedBack<Result<(), Refusal>>
         ensures { handed result.session memory.now (reply_to result.reply) ≡ leaves self memory.now (set_regime r) }
     {
         match checks::check_regime(memory.len(), r) {
-            Checked::Refused(refusal) => Changed {
+            Err(refusal) => HandedBack {
                 session: self,
-                reply: Checked::Refused(refusal),
+                reply: Err(refusal),
             },
-            Checked::Accepted => {
+            Ok(()) => {
                 let entry = Entry::empty();
-                let words = RegimeWords::of(r);
+                let words = RegimeWords::from(r);
                 let session = Session {
                     regime: words,
                     entries: [entry; ENTRIES],
@@ -121,9 +122,9 @@ impl Session {
                     spare16: 0,
                     spare32: 0,
                 };
-                Changed {
+                HandedBack {
                     session: session,
-                    reply: Checked::Accepted,
+                    reply: Ok(()),
                 }
             }
         }
@@ -139,46 +140,57 @@ impl Session {
     }
 
     // An access: refused, or else answered.
-    pub fn access(mut self, memory: &mut [u8], a: Access) -> Accessed
-        ensures { handed result.session memory.new (reply_of (view result.answer)) ≡ leaves self memory.old (access a) }
+    pub fn access(mut self, memory: &mut [u8], a: Access) -> HandedBack<Answer>
+        ensures { handed result.session memory.new (reply_of (view result.reply)) ≡ leaves self memory.old (access a) }
     {
         let i = tlb::entry_of(self.regime, a);
         let entries = self.entries;
-        let filled = tlb::access_entry(self.regime, self.set, entries[i], memory, a);
+        let filled = tlb::access_entry(self.regime_held(), entries[i], memory, a);
         let entry = filled.entry;
         let answer = filled.answer;
         self.entries[i] = entry;
-        Accessed {
+        HandedBack {
             session: self,
-            answer: answer,
+            reply: answer,
         }
     }
 
     // Stores one descriptor at a physical address in the pool, in the byte order of the regime: refused, or else done.
-    pub fn store(self, memory: &mut [u8], address: PhysAddr, value: u64) -> Changed
+    pub fn store(
+        self,
+        memory: &mut [u8],
+        address: PhysAddr,
+        value: u64,
+    ) -> HandedBack<Result<(), Refusal>>
         ensures { handed result.session memory.new (reply_to result.reply) ≡ leaves self memory.old (store address.0 value) }
     {
-        let reply = store_in(self.regime, self.set, memory, address, value);
-        Changed {
+        let reply = store_in(self.regime_held(), memory, address, value);
+        HandedBack {
             session: self,
             reply: reply,
         }
     }
 
     // Harvests count pages from page first on into the lent map, and empties every entry: refused, or else done.
-    pub fn harvest(self, memory: &mut [u8], first: u64, count: u64, map: &mut [u8]) -> Changed
+    pub fn harvest(
+        self,
+        memory: &mut [u8],
+        first: u64,
+        count: u64,
+        map: &mut [u8],
+    ) -> HandedBack<Result<(), Refusal>>
         ensures { (result.session, harvested result.reply memory.new map.new) ≡ harvest_leaves self first count memory.old map.old }
     {
-        match harvest_in(self.regime, self.set, memory, first, count, map) {
-            Checked::Refused(refused) => Changed {
+        match harvest_in(self.regime_held(), memory, first, count, map) {
+            Err(refused) => HandedBack {
                 session: self,
-                reply: Checked::Refused(refused),
+                reply: Err(refused),
             },
-            Checked::Accepted => {
+            Ok(()) => {
                 let dropped = self.invalidate_all();
-                Changed {
+                HandedBack {
                     session: dropped,
-                    reply: Checked::Accepted,
+                    reply: Ok(()),
                 }
             }
         }

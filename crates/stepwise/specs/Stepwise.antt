@@ -1,5 +1,5 @@
 -- The walk a descriptor at a time (RULES 16): what a start and each offer leave of it.
-use Rattle.std.specs.Prelude.{ℕ, suc, ◌-◌, min, false, ◌≡◌}
+use Rattle.std.specs.Prelude.{ℕ, suc, ◌-◌, min, false, ◌≡◌, Ok, Err, Option, Some, None}
 use Rattle.descriptor.specs.Bits.{pick}
 use Rattle.vmsa.specs.Fields.{no_tables, with_table}
 use Rattle.vmsa.specs.Answers.{Result, fault as faulted, refused, code_of, number_of, view}
@@ -8,33 +8,29 @@ use Rattle.vmsa.specs.declared.Regime.{Regime}
 use Rattle.vmsa.specs.declared.Access.{Access}
 use Rattle.vmsa.specs.declared.Refusal.{Refusal}
 use Rattle.vmsa.specs.declared.Refusal.TheVariants.{WalkEnded}
+use Rattle.vmsa.specs.declared.FaultKind.{FaultKind}
 use Rattle.vmsa.specs.declared.FaultKind.TheVariants.{ExternalAbort}
 use Rattle.vmsa.specs.declared.Leaf.{Leaf}
-use Rattle.checks.specs.declared.Checked.{Checked}
-use Rattle.checks.specs.declared.Checked.TheVariants.{Accepted, Refused}
+use Rattle.checks.specs.Order.{Checked}
 use Rattle.checks.specs.Order.{start_check}
 use Rattle.lookup.specs.declared.Context.{Context}
-use Rattle.lookup.specs.declared.First.{First}
-use Rattle.lookup.specs.declared.First.TheVariants as first
+use Rattle.lookup.specs.Steps.{First}
 use Rattle.lookup.specs.declared.Next.{Next}
 use Rattle.lookup.specs.declared.Next.TheVariants as next
-use Rattle.lookup.specs.declared.Word.{Word}
-use Rattle.lookup.specs.declared.Word.TheVariants.{Value, Unreachable}
 use Rattle.lookup.specs.Trace.{End, fault, leaf, leaf_under_hpd}
 use Rattle.lookup.specs.Steps.{decoded, entry_at, range_of, context_of, left_at_first, first_table}
 use Rattle.decision.specs.Decision.{Decision, decision}
 use Rattle.stepwise.specs.declared.Wanting.{Wanting}
-use Rattle.stepwise.specs.declared.Due.{Due}
-use Rattle.stepwise.specs.declared.Due.TheVariants as due
 use Rattle.stepwise.specs.declared.Conclusion.{Conclusion}
 use Rattle.stepwise.specs.declared.Stepwise.{Stepwise}
 use Rattle.stepwise.specs.declared.Stepwise.TheVariants as stepwise
 use Rattle.stepwise.specs.declared.Offered.{Offered}
+use Rattle.stepwise.specs.declared.Update.{Update}
 
 -- how a walk ends: its answer in numbers, and the update that is due
 pub record Ended : Type 0 where
   pub result : Result
-  pub due : Due
+  pub due : Option Update
 
 -- a walk wants a descriptor, or has ended
 pub data Progress : Type 0 where
@@ -52,18 +48,21 @@ seen (stepwise.Ended c) = ended (seen_end c)
 -- ---- how it ends (RULES 16.4)
 
 -- the one update: of the leaf's descriptor, from the value that was read to the leaf's new value
-abbrev pub due_of : ℕ → ℕ → Decision → Due
-due_of at v d = pick d.update (due.Update (record { address = record { 0 = at }; expected = v; value = d.value })) due.Nothing
+abbrev pub due_of : ℕ → ℕ → Decision → Option Update
+due_of at v d = pick d.update (Some (record { address = record { 0 = at }; expected = v; value = d.value })) None
+
+-- a fault of steps 1 to 5: no update is due
+abbrev pub lookup_fault : FaultKind → ℕ → ℕ → Ended
+lookup_fault kind level reads = record { result = faulted (record { code = code_of kind level; level = level; cacheable = false; reads = reads }); due = None }
 
 -- the answer of the plain walk to the end of steps 1 to 5, so many descriptors having been read
 abbrev pub conclusion : Regime → Access → ℕ → End → Ended
-conclusion r a reads (fault kind level) =
-    record { result = faulted (record { code = code_of kind level; level = level; cacheable = false; reads = reads }); due = due.Nothing }
+conclusion r a reads (fault kind level) = lookup_fault kind level reads
 conclusion r a reads (leaf at l) = record { result = (decision r a l reads).result; due = due_of at l.value (decision r a l reads) }
 
 -- a refusal carries its number alone
 abbrev pub declined : Refusal → Ended
-declined x = record { result = refused (number_of x); due = due.Nothing }
+declined x = record { result = refused (number_of x); due = None }
 
 -- ---- the start (RULES 16.1)
 
@@ -73,12 +72,12 @@ wanting_entry r a left sum table =
     record { regime = r; access = a; address = record { 0 = entry_at (context_of r a.address.0) left table }; left = left; tables = sum }
 
 abbrev pub begun : Regime → Access → First → Progress
-begun r a (first.Fault kind) = ended (conclusion r a 0 (fault kind 0))
-begun r a (first.Table root) = wanting (wanting_entry r a (left_at_first r a.address.0) no_tables root.0)
+begun r a (Err kind) = ended (conclusion r a 0 (fault kind 0))
+begun r a (Ok root) = wanting (wanting_entry r a (left_at_first r a.address.0) no_tables root.0)
 
 abbrev pub started : Regime → Access → Checked → Progress
-started r a (Refused x) = ended (declined x)
-started r a Accepted = begun r a (first_table r a.address.0)
+started r a (Err x) = ended (declined x)
+started r a (Ok _) = begun r a (first_table r a.address.0)
 
 unfoldable pub start : Regime → Access → Progress
 start r a = started r a (start_check r a)
@@ -113,20 +112,20 @@ module _ (w : Wanting) where
   abbrev pub context_at : Context
   context_at = context_of w.regime w.access.address.0
 
-  abbrev pub taken : Word → Progress
-  taken (Value v) = after_value v (decoded context_at.page context_at.limit.0 left_at v)
-  taken Unreachable = ended_at (fault ExternalAbort (level_of left_at))
+  abbrev pub taken : Option ℕ → Progress
+  taken (Some v) = after_value v (decoded context_at.page context_at.limit.0 left_at v)
+  taken None = ended_at (fault ExternalAbort (level_of left_at))
 
   -- a walk under a regime or for an access that a start refuses ends with that refusal; no call leaves one (RULES 16.6)
-  abbrev pub offered_by : Word → Checked → Progress
-  offered_by o (Refused x) = ended (declined x)
-  offered_by o Accepted = taken o
+  abbrev pub offered_by : Option ℕ → Checked → Progress
+  offered_by o (Err x) = ended (declined x)
+  offered_by o (Ok _) = taken o
 
-  unfoldable pub offered : Word → Progress
+  unfoldable pub offered : Option ℕ → Progress
   offered o = offered_by o (start_check w.regime w.access)
 
 -- ---- an offer to any walk: after the end it is refused with 12, and changes nothing (RULES 16.3)
 
-abbrev pub Takes : Stepwise → Word → Offered → Type 0
-Takes (stepwise.Wanting w) o x = (seen x.walk ≡ offered w o) × (x.reply ≡ Accepted)
-Takes (stepwise.Ended c) o x = x ≡ record { walk = stepwise.Ended c; reply = Refused WalkEnded }
+abbrev pub Takes : Stepwise → Option ℕ → Offered → Type 0
+Takes (stepwise.Wanting w) o x = (seen x.walk ≡ offered w o) × (x.reply ≡ Ok tt)
+Takes (stepwise.Ended c) o x = x ≡ record { walk = stepwise.Ended c; reply = Err WalkEnded }

@@ -2,16 +2,13 @@
 #![tactic(auto)]
 
 ghost use Rattle.std.specs.Prelude.{◌≡◌, ◌≤◌, ◌<◌};
-ghost use Rattle.descriptor.specs.Bits.{pick};
 ghost use Rattle.vmsa.specs.Limits.{address_limit, Sized};
-ghost use Rattle.vmsa.specs.Fields.{no_tables};
 ghost use Rattle.vmsa.specs.Granules.{Paged};
-ghost use Rattle.lookup.specs.Trace.{fault, leaf};
+ghost use Rattle.lookup.specs.Trace.{leaf};
 ghost use Rattle.lookup.specs.Steps.{context_of, first_table};
-ghost use Rattle.stepwise.specs.Stepwise.{left_at, reads_at, conclusion, declined, wanting, ended, wanting_entry, begun, start as start_of, taken, offered, seen_end, seen, Takes};
+ghost use Rattle.stepwise.specs.Stepwise.{left_at, reads_at, lookup_fault, conclusion, declined, wanting, ended, wanting_entry, begun, start as start_of, taken, offered, seen_end, seen, Takes};
 
-use checks::Checked;
-use lookup::{Context, First, Next, Word};
+use lookup::{Context, Next};
 use vmsa::{Access, Answer, Fault, FaultKind, Leaf, PhysAddr, Refusal, Regime};
 
 // A walk that wants a descriptor: what it was started with, the descriptor's address, the levels left below it, and the sum of the tables on the way.
@@ -32,19 +29,14 @@ pub struct Update {
     pub value: u64,
 }
 
-#[derive(Clone, Copy)]
-pub enum Due {
-    Nothing,
-    Update(Update),
-}
-
 // How a walk ends: its answer, and the update that is due, which is the caller's to make.
 #[derive(Clone, Copy)]
 pub struct Conclusion {
     pub answer: Answer,
-    pub due: Due,
+    pub due: Option<Update>,
 }
 
+// A walk in one of its two states, each with what it carries.
 #[derive(Clone, Copy)]
 pub enum Stepwise {
     Wanting(Wanting),
@@ -55,7 +47,7 @@ pub enum Stepwise {
 #[derive(Clone, Copy)]
 pub struct Offered {
     pub walk: Stepwise,
-    pub reply: Checked,
+    pub reply: Result<(), Refusal>,
 }
 
 // The levels left below the descriptor that a walk wants, and the count of reads with it.
@@ -70,22 +62,17 @@ fn decline(refusal: Refusal) -> Stepwise
 {
     Stepwise::Ended(Conclusion {
         answer: Answer::Refused(refusal),
-        due: Due::Nothing,
+        due: None,
     })
 }
 
 // A fault of steps 1 to 5.
 fn fail(kind: FaultKind, level: u8, reads: u8) -> Stepwise
-    ensures { (r : Regime) (a : Access) → seen result ≡ ended (conclusion r a reads (fault kind level)) }
+    ensures { seen result ≡ ended (lookup_fault kind level reads) }
 {
     Stepwise::Ended(Conclusion {
-        answer: Answer::Fault(Fault {
-            kind: kind,
-            level: level,
-            cacheable: false,
-            reads: reads,
-        }),
-        due: Due::Nothing,
+        answer: Answer::Fault(Fault::of_lookup(kind, level, reads)),
+        due: None,
     })
 }
 
@@ -99,7 +86,7 @@ fn judge(r: Regime, a: Access, at: PhysAddr, l: Leaf, reads: u8) -> Stepwise
     if verdict.update {
         return Stepwise::Ended(Conclusion {
             answer: answer,
-            due: Due::Update(Update {
+            due: Some(Update {
                 address: at,
                 expected: l.value,
                 value: verdict.value,
@@ -108,7 +95,7 @@ fn judge(r: Regime, a: Access, at: PhysAddr, l: Leaf, reads: u8) -> Stepwise
     }
     Stepwise::Ended(Conclusion {
         answer: answer,
-        due: Due::Nothing,
+        due: None,
     })
 }
 
@@ -127,20 +114,22 @@ fn want(r: Regime, a: Access, c: Context, left: u8, tables: u8, table: PhysAddr)
 }
 
 // A walk whose start is not refused.
+#[tactic(auto, unfolding(lookup::specs::Steps::context_of))]
 fn begin(r: Regime, a: Access) -> Stepwise
     requires { Sized r }
     ensures { seen result ≡ begun r a (first_table r a.address.0) }
 {
     let range = lookup::range_of(r, a.address);
     match lookup::first_table(r, range, a.address) {
-        First::Fault(kind) => fail(kind, 0, 0),
-        First::Table(root) => {
+        Err(kind) => fail(kind, 0, 0),
+        Ok(root) => {
             let c = lookup::context_of(r, range, a.address);
             want(r, a, c, geometry::first_left(c.page, range.tsz), 0, root)
         }
     }
 }
 
+#[tactic(auto, unfolding(crate::specs::Stepwise::left_at, crate::specs::Stepwise::reads_at))]
 fn depth_of(w: Wanting) -> Depth
     requires { Sized w.regime }
     ensures { (result.left ≡ left_at w) × (result.reads ≡ reads_at w) × (result.left ≤ 3) }
@@ -162,17 +151,11 @@ fn depth_of(w: Wanting) -> Depth
     }
 }
 
-// The sum of tables that counts for a leaf.
-fn under_hpd(hpd: bool, sum: u8) -> u8
-    ensures { result ≡ pick hpd no_tables sum }
-{
-    if hpd { 0 } else { sum }
-}
-
 // Goes on with the value of the descriptor that it wants.
+#[tactic(auto, unfolding(vmsa::specs::Fields::with_table))]
 fn take(w: Wanting, v: u64) -> Stepwise
     requires { Sized w.regime × (0 < w.access.size) }
-    ensures { seen result ≡ taken w (Word.Value v) }
+    ensures { seen result ≡ taken w (Some v) }
 {
     let r = w.regime;
     let a = w.access;
@@ -191,7 +174,7 @@ fn take(w: Wanting, v: u64) -> Stepwise
             let l = Leaf {
                 value: v,
                 left: left,
-                tables: under_hpd(range.hpd, w.tables),
+                tables: descriptor::select(range.hpd, 0, w.tables),
             };
             judge(r, a, at, l, depth.reads)
         }
@@ -201,7 +184,7 @@ fn take(w: Wanting, v: u64) -> Stepwise
 // Ends, the descriptor that it wants being out of reach.
 fn abort(w: Wanting) -> Stepwise
     requires { Sized w.regime }
-    ensures { seen result ≡ taken w Word.Unreachable }
+    ensures { seen result ≡ taken w None }
 {
     let depth = depth_of(w);
     fail(
@@ -212,67 +195,74 @@ fn abort(w: Wanting) -> Stepwise
 }
 
 impl Wanting {
-    // What is left of the walk once the value of the descriptor that it wants is offered.
-    pub fn value(self, v: u64) -> Stepwise
-        ensures { seen result ≡ offered self (Word.Value v) }
+    // What is left of the walk once what stands at its address is offered: the value, or nothing where that is not reachable.
+    #[tactic(auto, using(crate::proofs::Laws::startable), unfolding(crate::specs::Stepwise::offered))]
+    pub fn offer(self, word: Option<u64>) -> Stepwise
+        ensures { seen result ≡ offered self word }
     {
         match checks::check_start(self.regime, self.access) {
-            Checked::Refused(refusal) => decline(refusal),
-            Checked::Accepted => take(self, v),
+            Err(refusal) => decline(refusal),
+            Ok(()) => match word {
+                Some(v) => take(self, v),
+                None => abort(self),
+            },
         }
+    }
+
+    // What is left of the walk once the value of the descriptor that it wants is offered.
+    pub fn value(self, v: u64) -> Stepwise
+        ensures { seen result ≡ offered self (Some v) }
+    {
+        self.offer(Some(v))
     }
 
     // The same once it is said that the descriptor is not reachable.
     pub fn unreachable(self) -> Stepwise
-        ensures { seen result ≡ offered self Word.Unreachable }
+        ensures { seen result ≡ offered self None }
     {
-        match checks::check_start(self.regime, self.access) {
-            Checked::Refused(refusal) => decline(refusal),
-            Checked::Accepted => abort(self),
-        }
+        self.offer(None)
     }
 }
 
 impl Stepwise {
     // The start of a walk.
+    #[tactic(auto, using(crate::proofs::Laws::startable), unfolding(crate::specs::Stepwise::start))]
     pub fn start(r: Regime, a: Access) -> Self
         ensures { seen result ≡ start_of r a }
     {
         match checks::check_start(r, a) {
-            Checked::Refused(refusal) => decline(refusal),
-            Checked::Accepted => begin(r, a),
+            Err(refusal) => decline(refusal),
+            Ok(()) => begin(r, a),
         }
     }
 
-    // The value of the descriptor that it wants is offered; after its end that is refused, and changes nothing.
-    pub fn value(self, v: u64) -> Offered
-        ensures { Takes self (Word.Value v) result }
+    // What stands at the address that it wants is offered; after its end that is refused, and changes nothing.
+    pub fn offer(self, word: Option<u64>) -> Offered
+        ensures { Takes self word result }
     {
-        let Stepwise::Wanting(w) = self else {
-            return Offered {
+        match self {
+            Stepwise::Wanting(w) => Offered {
+                walk: w.offer(word),
+                reply: Ok(()),
+            },
+            Stepwise::Ended(_) => Offered {
                 walk: self,
-                reply: Checked::Refused(Refusal::WalkEnded),
-            };
-        };
-        Offered {
-            walk: w.value(v),
-            reply: Checked::Accepted,
+                reply: Err(Refusal::WalkEnded),
+            },
         }
+    }
+
+    // The value of the descriptor that it wants is offered.
+    pub fn value(self, v: u64) -> Offered
+        ensures { Takes self (Some v) result }
+    {
+        self.offer(Some(v))
     }
 
     // The same where the descriptor is said to be not reachable.
     pub fn unreachable(self) -> Offered
-        ensures { Takes self Word.Unreachable result }
+        ensures { Takes self None result }
     {
-        let Stepwise::Wanting(w) = self else {
-            return Offered {
-                walk: self,
-                reply: Checked::Refused(Refusal::WalkEnded),
-            };
-        };
-        Offered {
-            walk: w.unreachable(),
-            reply: Checked::Accepted,
-        }
+        self.offer(None)
     }
 }

@@ -2,7 +2,7 @@
 use Prim.Native.Nat.{ℕ, ◌+◌, ◌-◌, ◌*◌, ◌/◌, ◌%◌, ◌≤◌, ◌^◌}
 use mathlib.Core.Bool.{Bool, true, false, ◌||◌}
 use mathlib.Core.List.{List}
-use mathlib.Core.Option.{none, some}
+use Rattle.std.specs.Prelude.{None, Some}
 use mathlib.Core.Path.{◌≡◌, refl, sym, ap}
 use native.Mathlib.Nat.{mul-div_cancel}
 use native.Mathlib.Omega.{arith}
@@ -96,7 +96,7 @@ module _ (r : Regime) (m : List ℕ) (a : Access) (z : Sized r) (e : (range_of r
       let f = found r (pool_bytes r.pool m) a.address.0 at l z e q in
       let k : (at - r.pool.address.0) + 8 ≤ r.pool.length = (let p = length_part m r.pool.start r.pool.length h in omega (arith, f.inside.least, f.inside.most)) in
       rw (update_decision r a l n, value_decision r a l n, reply_decision r a l n, cache_decision r a l n)
-      (ap (λ (x : List ℕ). record { reply = answered (judged r l a) n; memory = x; kept = pick (cacheable_in (judged r l a)) (some (revalued l (stamped (judged r l a) l.value))) none })
+      (ap (λ (x : List ℕ). record { reply = answered (judged r l a) n; memory = x; kept = pick (cacheable_in (judged r l a)) (Some (revalued l (stamped (judged r l a) l.value))) None })
       (memory_by at (stamped (judged r l a) l.value) (updates (judged r l a)) k))
 
   pub walked_pool_lem : usable r ≡ true → walked ours r m a ≡ walked_pool r m a

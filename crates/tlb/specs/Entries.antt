@@ -1,6 +1,5 @@
 -- An entry of the code (RULES 10.2 and 10.5) in the walker's values, and what an access leaves of it (RULES 10.3).
-use Rattle.std.specs.Prelude.{ℕ, ◌&&◌, List, leb}
-use Rattle.std.proofs.Math.Option.{Option, none, some}
+use Rattle.std.specs.Prelude.{option_map, ℕ, ◌&&◌, List, leb, Option, None, Some, Ok, Err}
 use Rattle.descriptor.specs.Bits.{pick}
 use Rattle.vmsa.specs.Granules.{page_bits_of}
 use Rattle.geometry.specs.Geometry.{page_of}
@@ -9,20 +8,15 @@ use Rattle.vmsa.specs.Answers.{number_of, view, dirtied_in}
 use Rattle.vmsa.specs.declared.RegimeWords.{RegimeWords}
 use Rattle.vmsa.specs.declared.Regime.{Regime}
 use Rattle.vmsa.specs.declared.Access.{Access}
+use Rattle.vmsa.specs.declared.Answer.{Answer}
 use Rattle.vmsa.specs.declared.Leaf.{Leaf}
-use Rattle.checks.specs.declared.Checked.{Checked}
-use Rattle.checks.specs.declared.Checked.TheVariants.{Accepted, Refused}
+use Rattle.checks.specs.Order.{Checked}
 use Rattle.checks.specs.Order.{session_access_check}
 use Rattle.decision.specs.Decision.{hit_kind}
 use Rattle.decision.specs.declared.HitKind.{HitKind}
 use Rattle.decision.specs.declared.HitKind.TheVariants as hits
 use Rattle.walk.specs.declared.Walked.{Walked as WalkedStruct}
-use Rattle.walk.specs.Walk.{kept_leaf}
 use Rattle.tlb.specs.declared.Entry.{Entry as EntryStruct}
-use Rattle.tlb.specs.declared.Held.{Held}
-use Rattle.tlb.specs.declared.Held.TheVariants as held
-use Rattle.tlb.specs.declared.Asked.{Asked}
-use Rattle.tlb.specs.declared.Asked.TheVariants as asked
 use Rattle.tlb.specs.Replies.{Reply, refused, answered, reply_of}
 use Rattle.tlb.specs.Walker.{Walker, no_regime, Entry, empty, holds, entry_of, held_in, Walked, access_in}
 use Rattle.tlb.specs.Ours.{ours}
@@ -40,7 +34,7 @@ full_entry page leaf = record { page = page; value = leaf.value; left = leaf.lef
 
 -- a session's regime, where it is set
 abbrev pub regime_in : RegimeWords → ℕ → Option Regime
-regime_in regime set = pick (flag set) (some (regime_of regime)) none
+regime_in regime set = pick (flag set) (Some (regime_of regime)) None
 
 -- the page of an access under a regime, and the number of its entry
 abbrev pub page_for : Regime → Access → ℕ
@@ -49,21 +43,16 @@ page_for r a = page_of (page_bits_of r) a.address.0
 abbrev pub entry_for : Regime → Access → ℕ
 entry_for r a = entry_of (page_for r a)
 
--- what an entry holds of a page, as the code says it
-abbrev pub held_leaf : Held → Option Leaf
-held_leaf (held.Leaf l) = some l
-held_leaf held.Nothing = none
-
 -- a walk of the code, in the walker's values
 abbrev pub walked_view : WalkedStruct → List ℕ → Walked
-walked_view w memory = record { reply = reply_of (view w.answer); memory = memory; kept = kept_leaf w.kept }
+walked_view w memory = record { reply = reply_of (view w.answer); memory = memory; kept = w.kept }
 
 -- ---- what an access leaves of its page's entry
 
 -- the entry with a leaf that may be remembered of a page
 abbrev pub kept_entry : EntryStruct → ℕ → Option Leaf → EntryStruct
-kept_entry e page none = e
-kept_entry e page (some leaf) = full_entry page leaf
+kept_entry e page None = e
+kept_entry e page (Some leaf) = full_entry page leaf
 
 -- the entry, the memory, and the reply in whatever form A
 pub record Filling (A : Type 0) : Type 0 where
@@ -77,37 +66,38 @@ filling e m reply = record { entry = e; memory = m; reply = reply }
 abbrev pub filled_by : EntryStruct → Regime → Access → Walked → Filling Reply
 filled_by e r a w = filling (kept_entry e (page_for r a) w.kept) w.memory w.reply
 
--- under the regime of a session, where it is set
-abbrev pub accessed_entry : RegimeWords → ℕ → EntryStruct → List ℕ → Access → Filling Reply
-accessed_entry regime set e m a = filled_by e (regime_of regime) a (access_in ours (regime_in regime set) m a (entry_view e))
+-- under the regime of a session, if it has one
+abbrev pub accessed_entry : Option Regime → EntryStruct → List ℕ → Access → Filling Reply
+accessed_entry None e m a = filling e m (refused no_regime)
+accessed_entry (Some r) e m a = filled_by e r a (access_in ours (Some r) m a (entry_view e))
 
 -- ---- what an entry answers by itself
 
 -- nothing where it holds another page, or where the page would become dirty; that walks
 abbrev pub answer_of : Walker → Regime → Access → Option Leaf → Option Reply
-answer_of W r a none = none
-answer_of W r a (some h) = pick (dirtied_in (W.judge r h a)) none (some (answered (W.judge r h a) 0))
+answer_of W r a None = None
+answer_of W r a (Some h) = pick (dirtied_in (W.judge r h a)) None (Some (answered (W.judge r h a) 0))
 
 abbrev pub entry_answer : Walker → Regime → Access → Entry → Option Reply
 entry_answer W r a e = answer_of W r a (held_in e (W.page r a))
 
-abbrev pub asked_reply : Asked → Option Reply
-asked_reply (asked.Answered x) = some (reply_of (view x))
-asked_reply asked.Walk = none
+-- an answer of the code, where an entry gives one, as a reply
+abbrev pub asked_reply : Option Answer → Option Reply
+asked_reply x = option_map (λ (y : Answer). reply_of (view y)) x
 
 -- over n bytes of memory: what a session says at once, a refusal or what the entry answers; nothing where the access walks
 abbrev pub checked_reply : Checked → Option Reply → Option Reply
-checked_reply Accepted x = x
-checked_reply (Refused why) x = some (refused (number_of why))
+checked_reply (Ok _) x = x
+checked_reply (Err why) x = Some (refused (number_of why))
 
 abbrev pub entry_reply : ℕ → Access → Entry → Option Regime → Option Reply
-entry_reply n a e none = some (refused no_regime)
-entry_reply n a e (some r) = checked_reply (session_access_check n r a) (entry_answer ours r a e)
+entry_reply n a e None = Some (refused no_regime)
+entry_reply n a e (Some r) = checked_reply (session_access_check n r a) (entry_answer ours r a e)
 
 -- how an entry answers: as steps 6 to 8 do on the leaf that it holds of the page; one of another page misses
 abbrev pub kind_of : Regime → Access → Option Leaf → HitKind
-kind_of r a none = hits.Miss
-kind_of r a (some h) = hit_kind r a h
+kind_of r a None = hits.Miss
+kind_of r a (Some h) = hit_kind r a h
 
 abbrev pub entry_kind : Regime → Access → Entry → HitKind
 entry_kind r a e = kind_of r a (held_in e (ours.page r a))

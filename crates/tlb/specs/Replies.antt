@@ -1,8 +1,7 @@
 -- What a call of a session (RULES 10) hands back, with the count of reads apart.
-use Rattle.std.specs.Prelude.{ℕ, List, Bool, false, ◌||◌}
+use Rattle.std.specs.Prelude.{ℕ, List, Bool, false, ◌||◌, Ok, Err}
 use Rattle.vmsa.specs.Answers.{Result, success, fault, refused as refused_with, number_of, dirtied_in}
-use Rattle.checks.specs.declared.Checked.{Checked}
-use Rattle.checks.specs.declared.Checked.TheVariants.{Accepted, Refused}
+use Rattle.checks.specs.Order.{Checked}
 
 -- done: an accepted call that is neither an access nor a harvest. harvested: an accepted harvest, with the map that it left. answered: an access's answer with its count put to 0, and the count
 pub data Reply : Type 0 where
@@ -38,13 +37,13 @@ reply_of (refused_with n) = refused n
 
 -- the reply of a call that answers nothing but that it was accepted
 abbrev pub reply_to : Checked → Reply
-reply_to Accepted = done
-reply_to (Refused x) = refused (number_of x)
+reply_to (Ok _) = done
+reply_to (Err x) = refused (number_of x)
 
 -- the reply of a harvest, which left a map
 abbrev pub harvest_reply : Checked → List ℕ → Reply
-harvest_reply Accepted map = harvested map
-harvest_reply (Refused x) map = refused (number_of x)
+harvest_reply (Ok _) map = harvested map
+harvest_reply (Err x) map = refused (number_of x)
 
 -- a reply with its count of reads, where there is one, put to 0
 abbrev pub uncounted : Reply → Reply

@@ -1,14 +1,12 @@
 -- A TLB entry (the customer's papers: a "place"), and what it and the walk answer an access (RULES 10.2 and 10.3), over any walker.
-use Rattle.std.specs.Prelude.{ℕ, ◌+◌, ◌%◌, false, List, ◌++◌, length, take, drop, eqb}
-use Rattle.std.proofs.Math.Option.{Option, none, some}
+use Rattle.std.specs.Prelude.{ℕ, ◌+◌, ◌%◌, false, List, ◌++◌, length, take, drop, eqb, Option, None, Some, Ok, Err}
 use Rattle.descriptor.specs.Bits.{pick}
 use Rattle.vmsa.specs.Answers.{Result, fault, number_of, cacheable_in, dirtied_in}
 use Rattle.vmsa.specs.declared.Regime.{Regime}
 use Rattle.vmsa.specs.declared.Access.{Access}
 use Rattle.vmsa.specs.declared.Leaf.{Leaf}
 use Rattle.vmsa.specs.declared.Refusal.TheVariants.{NoRegime}
-use Rattle.checks.specs.declared.Checked.{Checked}
-use Rattle.checks.specs.declared.Checked.TheVariants.{Accepted, Refused}
+use Rattle.checks.specs.Order.{Checked}
 use Rattle.checks.specs.Order.{and_then}
 use Rattle.walk.specs.Walk.{Outcome, revalued}
 use Rattle.harvest.specs.Harvest.{Harvested}
@@ -60,8 +58,8 @@ entry_of page = page % entry_count
 
 -- the leaf that an entry holds of a page
 abbrev pub held_in : Entry → ℕ → Option Leaf
-held_in empty page = none
-held_in (holds q leaf) page = pick (eqb q page) (some leaf) none
+held_in empty page = None
+held_in (holds q leaf) page = pick (eqb q page) (Some leaf) None
 
 -- what an access gives: its reply, the memory afterwards, and the leaf that then fills its page's entry
 pub record Walked : Type 0 where
@@ -71,7 +69,7 @@ pub record Walked : Type 0 where
 
 -- a refusal carries its number alone and changes nothing
 abbrev pub declined : List ℕ → ℕ → Walked
-declined m n = record { reply = refused n; memory = m; kept = none }
+declined m n = record { reply = refused n; memory = m; kept = None }
 
 module _ (W : Walker) where
   open W use {memory_check, access_check, word, page, locate, judge, stamp}
@@ -87,12 +85,12 @@ module _ (W : Walker) where
       record {
         reply = answered o n;
         memory = pick (updates o) (put_word R m at (stamp o u.value)) m;
-        kept = pick (cacheable_in o) (some (revalued u (stamp o u.value))) none;
+        kept = pick (cacheable_in o) (Some (revalued u (stamp o u.value))) None;
       }
 
   abbrev pub walk_from : Regime → List ℕ → Access → Spot → Walked
   walk_from R m a (lost code level n) =
-      record { reply = answered (fault (record { code = code; level = level; cacheable = false; reads = 0 })) n; memory = m; kept = none }
+      record { reply = answered (fault (record { code = code; level = level; cacheable = false; reads = 0 })) n; memory = m; kept = None }
   walk_from R m a (found at u n) = landed R m at u n (judge R u a)
 
   abbrev pub walked : Regime → List ℕ → Access → Walked
@@ -102,15 +100,15 @@ module _ (W : Walker) where
 
   -- what a held leaf answers, unless a write or update would make it dirty: that walks again
   abbrev pub recall : Regime → List ℕ → Access → Result → Walked
-  recall R m a o = pick (dirtied_in o) (walked R m a) (record { reply = answered o 0; memory = m; kept = none })
+  recall R m a o = pick (dirtied_in o) (walked R m a) (record { reply = answered o 0; memory = m; kept = None })
 
   abbrev pub access_held : Regime → List ℕ → Access → Option Leaf → Walked
-  access_held R m a none = walked R m a
-  access_held R m a (some h) = recall R m a (judge R h a)
+  access_held R m a None = walked R m a
+  access_held R m a (Some h) = recall R m a (judge R h a)
 
   abbrev pub access_by : Regime → List ℕ → Access → Option Leaf → Checked → Walked
-  access_by R m a h Accepted = access_held R m a h
-  access_by R m a h (Refused x) = declined m (number_of x)
+  access_by R m a h (Ok _) = access_held R m a h
+  access_by R m a h (Err x) = declined m (number_of x)
 
   -- under a regime, by the leaf held of its page
   abbrev pub access_under : Regime → List ℕ → Access → Option Leaf → Walked
@@ -118,5 +116,5 @@ module _ (W : Walker) where
 
   -- under the regime of a session, if it has one, by its page's entry
   abbrev pub access_in : Option Regime → List ℕ → Access → Entry → Walked
-  access_in none m a e = declined m no_regime
-  access_in (some R) m a e = access_under R m a (held_in e (page R a))
+  access_in None m a e = declined m no_regime
+  access_in (Some R) m a e = access_under R m a (held_in e (page R a))

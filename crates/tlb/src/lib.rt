@@ -1,26 +1,22 @@
 // A TLB entry: what it holds, what it answers an access, and what an access leaves of it.
 #![tactic(auto)]
 
-ghost use Rattle.std.specs.Prelude.{◌≡◌, ◌+◌, ◌≤◌, ◌<◌, length};
-ghost use Rattle.std.proofs.Math.Option.{some};
+ghost use Rattle.std.specs.Prelude.{◌≡◌, ◌+◌, ◌≤◌, ◌<◌, length, Some};
 ghost use Rattle.vmsa.specs.Answers.{view};
 ghost use Rattle.vmsa.specs.Words.{regime_of};
 ghost use Rattle.decision.specs.Decision.{failing};
-ghost use Rattle.walk.specs.Walk.{kept_leaf};
 ghost use Rattle.tlb.specs.Replies.{reply_of};
 ghost use Rattle.tlb.specs.Walker.{entry_count, held_in, walked as walked_of, access_held};
 ghost use Rattle.tlb.specs.Ours.{usable as usable_of, ours};
-ghost use Rattle.tlb.specs.Entries.{no_entry, entry_view, page_for, entry_for, held_leaf, walked_view, kept_entry, filling, filled_by, accessed_entry, entry_answer, asked_reply, leaf_in, entry_kind};
+ghost use Rattle.tlb.specs.Entries.{no_entry, entry_view, page_for, entry_for, walked_view, kept_entry, filling, filled_by, accessed_entry, entry_answer, asked_reply, leaf_in, entry_kind};
 
-use checks::Checked;
 use decision::HitKind;
 use vmsa::{Access, Answer, Fault, FaultKind, Leaf, Refusal, Regime, RegimeWords, Success};
-use walk::Kept;
 
 // How many entries a session has; specs/Walker.antt has the same number.
 pub const ENTRIES: usize = 64;
 
-// A TLB entry: the leaf that it holds of a page, with the sum of the tables above it, where held is not 0. All numbers, so that any bytes are an entry; the spare ones have no say.
+// A TLB entry: the leaf that it holds of a page, with the sum of the tables above it, where held is not 0. The C interface: all numbers, so that any bytes are an entry; the spare ones have no say.
 #[repr(C)]
 #[derive(Clone, Copy)]
 pub struct Entry {
@@ -33,25 +29,11 @@ pub struct Entry {
     pub spare32: u32,
 }
 
-// What an entry holds of a page.
+// What an access leaves of its page's entry, and its answer in whatever form.
 #[derive(Clone, Copy)]
-pub enum Held {
-    Leaf(Leaf),
-    Nothing,
-}
-
-// What an entry answers an access; or the walk does.
-#[derive(Clone, Copy)]
-pub enum Asked {
-    Answered(Answer),
-    Walk,
-}
-
-// What an access leaves of its page's entry, and its answer.
-#[derive(Clone, Copy)]
-pub struct Filled {
+pub struct Filled<A> {
     pub entry: Entry,
-    pub answer: Answer,
+    pub answer: A,
 }
 
 impl Entry {
@@ -70,38 +52,43 @@ impl Entry {
         }
     }
 
-    // The leaf that it holds of a page.
-    pub fn held_of(self, page: u64) -> Held
-        ensures { held_leaf result ≡ held_in (entry_view self) page }
+    // The leaf in it.
+    fn leaf(self) -> Leaf
+        ensures { result ≡ leaf_in self }
     {
-        if self.page == page {
-            if (self.held != 0) & (self.left <= 3) {
-                return Held::Leaf(Leaf {
-                    value: self.value,
-                    left: self.left,
-                    tables: self.tables,
-                });
-            }
-            return Held::Nothing;
+        Leaf {
+            value: self.value,
+            left: self.left,
+            tables: self.tables,
         }
-        Held::Nothing
     }
 
-    // What it answers an access: the held leaf's answer with 0 reads, unless the page would become dirty.
-    pub fn ask(self, r: Regime, a: Access) -> Asked
+    // The leaf that it holds of a page.
+    pub fn held_of(self, page: u64) -> Option<Leaf>
+        ensures { result ≡ held_in (entry_view self) page }
+    {
+        if self.page == page && self.held != 0 && self.left <= 3 {
+            return Some(self.leaf());
+        }
+        None
+    }
+
+    // What it answers an access, where it does: the held leaf's answer with 0 reads, unless the page would become dirty.
+    #[tactic(auto, using(crate::proofs::Deciding::reply_decision), unfolding(crate::specs::Ours::judged))]
+    pub fn ask(self, r: Regime, a: Access) -> Option<Answer>
         requires { 0 < a.size }
         ensures { asked_reply result ≡ entry_answer ours r a (entry_view self) }
     {
         let page = page_of(r, a);
-        let Held::Leaf(leaf) = self.held_of(page) else {
-            return Asked::Walk;
+        let Some(leaf) = self.held_of(page) else {
+            return None;
         };
         let verdict = decision::judge(r, a, leaf, 0);
         let answer = verdict.answer;
         if answer.dirtied() {
-            return Asked::Walk;
+            return None;
         }
-        Asked::Answered(answer)
+        Some(answer)
     }
 
     // How it answers an access: one of another page, or one that would make the page dirty, misses.
@@ -110,7 +97,7 @@ impl Entry {
         ensures { result ≡ entry_kind r a (entry_view self) }
     {
         let page = page_of(r, a);
-        let Held::Leaf(leaf) = self.held_of(page) else {
+        let Some(leaf) = self.held_of(page) else {
             return HitKind::Miss;
         };
         decision::hit_kind(r, a, leaf)
@@ -121,32 +108,23 @@ impl Entry {
         requires { self.left ≤ 3 }
         ensures { view (Answer.Fault result) ≡ (failing (leaf_in self) 0 kind).result }
     {
-        let leaf = Leaf {
-            value: self.value,
-            left: self.left,
-            tables: self.tables,
-        };
-        decision::fault(leaf, 0, kind)
+        decision::fault(self.leaf(), 0, kind)
     }
 
     // The success that it answers with, where it does.
+    #[tactic(auto, using(crate::proofs::Entries::success_answers))]
     pub fn success(self, r: Regime, a: Access) -> Success
         requires { entry_kind r a (entry_view self) ≡ HitKind.Success }
-        ensures { some (reply_of (view (Answer.Success result))) ≡ entry_answer ours r a (entry_view self) }
+        ensures { Some (reply_of (view (Answer.Success result))) ≡ entry_answer ours r a (entry_view self) }
     {
-        let leaf = Leaf {
-            value: self.value,
-            left: self.left,
-            tables: self.tables,
-        };
-        decision::hit_success(r, a, leaf)
+        decision::hit_success(r, a, self.leaf())
     }
 
     // The entry with a leaf that may be remembered of a page.
-    fn keep(self, page: u64, kept: Kept) -> Self
-        ensures { result ≡ kept_entry self page (kept_leaf kept) }
+    fn keep(self, page: u64, kept: Option<Leaf>) -> Self
+        ensures { result ≡ kept_entry self page kept }
     {
-        let Kept::Leaf(leaf) = kept else {
+        let Some(leaf) = kept else {
             return self;
         };
         Entry {
@@ -168,7 +146,9 @@ fn usable(r: Regime) -> bool
     !(refusals::sizes_bad(r) | refusals::roots_bad(r))
 }
 
-// The walk of an access that no entry answers, in the pool's part of the memory.
+// The walk of an access that no entry answers, in the pool's part of the memory. That the pool lies in it, and that the size
+// is not 0, the caller has from the checks of the same call.
+#[tactic(auto, using(crate::proofs::Walking::usable_sized, crate::proofs::Walking::usable_root, crate::proofs::Access::miss_outcome, crate::proofs::Access::unusable_outcome))]
 pub fn miss(memory: &mut [u8], r: Regime, a: Access) -> walk::Walked
     requires { (r.pool.start + r.pool.length ≤ length memory.old) × (0 < a.size) }
     ensures { walked_view result memory.new ≡ walked_of ours r memory.old a }
@@ -179,13 +159,8 @@ pub fn miss(memory: &mut [u8], r: Regime, a: Access) -> walk::Walked
         return walk::walk_leaf(&mut memory[start..end], r, a);
     }
     walk::Walked {
-        answer: Answer::Fault(Fault {
-            kind: FaultKind::Translation,
-            level: 0,
-            cacheable: false,
-            reads: 0,
-        }),
-        kept: Kept::Nothing,
+        answer: Answer::Fault(Fault::of_lookup(FaultKind::Translation, 0, 0)),
+        kept: None,
     }
 }
 
@@ -202,11 +177,11 @@ fn page_of(r: Regime, a: Access) -> u64
 pub fn entry_of(regime: RegimeWords, a: Access) -> usize
     ensures { (result ≡ entry_for (regime_of regime) a) × (result < entry_count) }
 {
-    (page_of(regime.regime(), a) as usize) % ENTRIES
+    (page_of(Regime::from(regime), a) as usize) % ENTRIES
 }
 
 // An access that walks: its answer, and its page's entry with the walk's leaf kept.
-pub fn walk_entry(entry: Entry, memory: &mut [u8], r: Regime, a: Access) -> Filled
+pub fn walk_entry(entry: Entry, memory: &mut [u8], r: Regime, a: Access) -> Filled<Answer>
     requires { (r.pool.start + r.pool.length ≤ length memory.old) × (0 < a.size) }
     ensures { filling result.entry memory.new (reply_of (view result.answer)) ≡ filled_by entry r a (walked_of ours r memory.old a) }
 {
@@ -221,11 +196,11 @@ pub fn walk_entry(entry: Entry, memory: &mut [u8], r: Regime, a: Access) -> Fill
 }
 
 // An access past its checks: its page's entry answers, or else the walk.
-fn answer_entry(entry: Entry, memory: &mut [u8], r: Regime, a: Access) -> Filled
+fn answer_entry(entry: Entry, memory: &mut [u8], r: Regime, a: Access) -> Filled<Answer>
     requires { (r.pool.start + r.pool.length ≤ length memory.old) × (0 < a.size) }
     ensures { filling result.entry memory.new (reply_of (view result.answer)) ≡ filled_by entry r a (access_held ours r memory.old a (held_in (entry_view entry) (ours.page r a))) }
 {
-    let Asked::Answered(answer) = entry.ask(r, a) else {
+    let Some(answer) = entry.ask(r, a) else {
         return walk_entry(entry, memory, r, a);
     };
     Filled {
@@ -234,28 +209,27 @@ fn answer_entry(entry: Entry, memory: &mut [u8], r: Regime, a: Access) -> Filled
     }
 }
 
-// An access in every session that has this regime, and this entry for the access's page.
+// An access in every session that has this regime, if any, and this entry for the access's page.
+#[tactic(auto, using(crate::proofs::Access::access_accepted, crate::proofs::Access::access_refused, crate::proofs::Access::access_let))]
 pub fn access_entry(
-    regime: RegimeWords,
-    set: u8,
+    regime: Option<Regime>,
     entry: Entry,
     memory: &mut [u8],
     a: Access,
-) -> Filled
-    ensures { filling result.entry memory.new (reply_of (view result.answer)) ≡ accessed_entry regime set entry memory.old a }
+) -> Filled<Answer>
+    ensures { filling result.entry memory.new (reply_of (view result.answer)) ≡ accessed_entry regime entry memory.old a }
 {
-    if set == 0 {
+    let Some(r) = regime else {
         return Filled {
             entry: entry,
             answer: Answer::Refused(Refusal::NoRegime),
         };
-    }
-    let r = regime.regime();
+    };
     match checks::check_session_access(memory.len(), r, a) {
-        Checked::Refused(refusal) => Filled {
+        Err(refusal) => Filled {
             entry: entry,
             answer: Answer::Refused(refusal),
         },
-        Checked::Accepted => answer_entry(entry, memory, r, a),
+        Ok(()) => answer_entry(entry, memory, r, a),
     }
 }

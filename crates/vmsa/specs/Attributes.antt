@@ -1,5 +1,5 @@
 -- Memory attributes (RULES 3.1): eight bytes in one number, byte 0 lowest, as MAIR_EL1 has them.
-use Rattle.std.specs.Prelude.{ℕ, zero, suc, ◌*◌, ◌/◌, ◌%◌, Bool, true, false, not, ◌&&◌, ◌||◌, eqb}
+use Rattle.std.specs.Prelude.{ℕ, ◌*◌, ◌/◌, ◌%◌, Bool, not, ◌&&◌, ◌||◌, eqb}
 use Rattle.descriptor.specs.Bits.{field}
 
 -- attribute byte i

@@ -1,6 +1,6 @@
 -- A regime as numbers (RULES 15.1).
 use Rattle.std.specs.Prelude.{ℕ, Bool, not, [], ◌∷◌, eqb, get_or}
-use Rattle.descriptor.specs.Bits.{pick}
+use Rattle.std.specs.Int.{from_bool}
 use Rattle.vmsa.specs.declared.Granule.{Granule}
 use Rattle.vmsa.specs.declared.Granule.TheVariants.{Kib4, Kib16, Kib64}
 use Rattle.vmsa.specs.declared.Regime.{Regime}
@@ -11,7 +11,7 @@ abbrev pub flag : ℕ → Bool
 flag b = not (eqb b 0)
 
 abbrev pub flag_byte : Bool → ℕ
-flag_byte b = pick b 1 0
+flag_byte b = from_bool b
 
 -- the number of a granule, as in Arm's field TG0; a number that is none of them is taken as 4 KiB
 abbrev pub granule_number : Granule → ℕ

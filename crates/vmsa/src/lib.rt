@@ -1,12 +1,12 @@
 // VMSAv8-64: addresses, the translation regime, an access, its answer.
 #![tactic(auto)]
 
-ghost use Rattle.std.specs.Prelude.{◌≡◌, ◌<◌};
+ghost use Rattle.std.specs.Prelude.{◌≡◌, ◌<◌, false};
 ghost use Rattle.vmsa.specs.Kinds.{is_fetch, is_probe, asks_write, writes as writes_of};
 ghost use Rattle.vmsa.specs.Attributes.{attribute as attribute_of, device as device_of};
 ghost use Rattle.vmsa.specs.Answers.{number_of, code_of, view, cacheable_in, dirtied_in};
 ghost use Rattle.vmsa.specs.Granules.{page_bits, Paged};
-ghost use Rattle.vmsa.specs.Words.{flag_byte, granule_number, granule_numbered, regime_of, regime_words};
+ghost use Rattle.vmsa.specs.Words.{granule_number, granule_numbered, regime_of, regime_words};
 ghost use Rattle.vmsa.specs.Settings.{initial, with_pool, with_range0, with_range1, with_hpd0, with_hpd1, with_output, with_ha, with_hd, with_wxn, with_ee, with_granule, with_attributes};
 
 // The limits of the pool, the memory and the regime; specs/Limits.antt has the same numbers.
@@ -52,15 +52,16 @@ pub const NO_USER_BELOW: u8 = 2;
 
 pub const NO_WRITE_BELOW: u8 = 3;
 
-// A physical address.
-#[derive(Clone, Copy)]
+// A physical address: any number, since a caller's may be. What one is below is said where it is needed.
+#[derive(Clone, Copy, PartialEq, Eq, Debug)]
 pub struct PhysAddr(pub u64);
 
 // An address of the guest.
-#[derive(Clone, Copy)]
+#[derive(Clone, Copy, PartialEq, Eq, Debug)]
 pub struct VirtAddr(pub u64);
 
-// The table pool: its part of the lent memory, and the physical address of its first byte.
+// The table pool: its part of the lent memory, and the physical address of its first byte. The part is two numbers, as a caller
+// names it; whatever uses it has it as a slice.
 #[derive(Clone, Copy)]
 pub struct Pool {
     pub start: usize,
@@ -69,7 +70,7 @@ pub struct Pool {
 }
 
 // One of the two ranges of guest addresses: its root table, its size field T, its disabled bit,
-// and HPD, with which bits of its tables do not count.
+// and HPD, with which bits of its tables do not count. T is any number: row 3 refuses those that are no size.
 #[derive(Clone, Copy)]
 pub struct Range {
     pub root: PhysAddr,
@@ -79,14 +80,15 @@ pub struct Range {
 }
 
 // The translation granule: the size of a page and of a table.
-#[derive(Clone, Copy)]
+#[derive(Clone, Copy, PartialEq, Eq, Debug)]
 pub enum Granule {
     Kib4,
     Kib16,
     Kib64,
 }
 
-// A translation regime: stage 1 of EL1&0. ee: its descriptors are big-endian.
+// A translation regime: stage 1 of EL1&0. output: Arm's code of the output size, as any number: row 3 refuses those that are no code.
+// ee: its descriptors are big-endian.
 #[derive(Clone, Copy)]
 pub struct Regime {
     pub pool: Pool,
@@ -101,7 +103,7 @@ pub struct Regime {
     pub attributes: u64,
 }
 
-// A regime as numbers, for where any bytes may stand: a flag is true where its byte is not 0; granule as in Arm's field TG0, 0 for 4, 1 for 64, 2 for 16 KiB, and any other number is taken as 4 KiB. The spare ones have no say, and are 0 in what we return.
+// A regime as numbers, for where any bytes may stand (the C interface): a flag is true where its byte is not 0; granule as in Arm's field TG0, 0 for 4, 1 for 64, 2 for 16 KiB, and any other number is taken as 4 KiB. The spare ones have no say, and are 0 in what we return.
 #[repr(C)]
 #[derive(Clone, Copy)]
 pub struct RegimeWords {
@@ -126,7 +128,7 @@ pub struct RegimeWords {
     pub spare32: u32,
 }
 
-#[derive(Clone, Copy)]
+#[derive(Clone, Copy, PartialEq, Eq, Debug)]
 pub enum AccessKind {
     Read,
     Write,
@@ -136,7 +138,7 @@ pub enum AccessKind {
     ProbeWrite,
 }
 
-// An access of size bytes at an address, from EL0 or else EL1.
+// An access of size bytes at an address, from EL0 or else EL1. The size is any number: row 6 refuses those that are none.
 #[derive(Clone, Copy)]
 pub struct Access {
     pub address: VirtAddr,
@@ -160,7 +162,7 @@ pub struct Success {
     pub reads: u8,
 }
 
-#[derive(Clone, Copy)]
+#[derive(Clone, Copy, PartialEq, Eq, Debug)]
 pub enum FaultKind {
     AddressSize,
     Translation,
@@ -178,22 +180,22 @@ pub struct Fault {
     pub reads: u8,
 }
 
-// Why a call is refused (RULES 5.1).
-#[derive(Clone, Copy)]
+// Why a call is refused, and the number of that (RULES 5.1).
+#[derive(Clone, Copy, PartialEq, Eq, Debug)]
 pub enum Refusal {
-    MemoryPool,
-    PoolAddress,
-    Sizes,
-    Root,
-    Attributes,
-    AccessSize,
-    PageCrossing,
-    StoreAddress,
-    NoRegime,
-    PageRange,
-    MapLength,
-    WalkEnded,
-    DirtyState,
+    MemoryPool = 1,
+    PoolAddress = 2,
+    Sizes = 3,
+    Root = 4,
+    Attributes = 5,
+    AccessSize = 6,
+    PageCrossing = 7,
+    StoreAddress = 8,
+    NoRegime = 9,
+    PageRange = 10,
+    MapLength = 11,
+    WalkEnded = 12,
+    DirtyState = 13,
 }
 
 #[derive(Clone, Copy)]
@@ -204,7 +206,8 @@ pub enum Answer {
 }
 
 // The block or page descriptor that a walk ends in: its value, the levels left below it,
-// and what the tables on the way to it take away, as the sum of their bits.
+// and what the tables on the way to it take away, as the sum of their bits. The levels are any number, since any bytes of a
+// TLB entry are a leaf (the C interface): that they are at most 3 is asked where it is needed.
 #[derive(Clone, Copy)]
 pub struct Leaf {
     pub value: u64,
@@ -248,6 +251,7 @@ impl Regime {
         self
     }
 
+    // Two ranges, two names for each of their settings: these are the names that the documents give a caller.
     pub fn with_range0(mut self, range0: Range) -> Self
         ensures { result ≡ with_range0 self range0 }
     {
@@ -314,23 +318,7 @@ impl Regime {
     pub fn with_granule(mut self, granule: Granule) -> Self
         ensures { result ≡ with_granule self granule }
     {
-        // a field that is an enum is set with the struct made anew (DECISIONS 75)
-        let pool = self.pool;
-        let range0 = self.range0;
-        let range1 = self.range1;
-        let changed = Regime {
-            pool: pool,
-            range0: range0,
-            range1: range1,
-            output: self.output,
-            ha: self.ha,
-            hd: self.hd,
-            wxn: self.wxn,
-            ee: self.ee,
-            granule: granule,
-            attributes: self.attributes,
-        };
-        self = changed;
+        self.granule = granule;
         self
     }
 
@@ -342,15 +330,8 @@ impl Regime {
     }
 }
 
-// 1 for true, 0 for false.
-pub fn flag_byte(b: bool) -> u8
-    ensures { result ≡ flag_byte b }
-{
-    if b { 1 } else { 0 }
-}
-
 impl Granule {
-    // How many low bits of an address lie within a page.
+    // How many low bits of an address lie within a page: no conversion, but a table of the rules.
     pub fn page_bits(self) -> u8
         ensures { (result ≡ page_bits self) × Paged result }
     {
@@ -360,22 +341,27 @@ impl Granule {
             Granule::Kib64 => 16,
         }
     }
+}
 
-    // Its number, as in Arm's field TG0.
-    fn number(self) -> u8
-        ensures { result ≡ granule_number self }
-    {
-        match self {
+// Its number, as in Arm's field TG0.
+impl From<Granule> for u8 {
+    ghost from_gives = { λ granule n. n ≡ granule_number granule };
+
+    fn from(granule: Granule) -> u8 {
+        match granule {
             Granule::Kib4 => 0,
             Granule::Kib64 => 1,
             Granule::Kib16 => 2,
         }
     }
+}
 
-    // The granule of a number; any other number is taken as 4 KiB.
-    fn numbered(n: u8) -> Self
-        ensures { result ≡ granule_numbered n }
-    {
+// The granule of a number; any other number is taken as 4 KiB.
+impl From<u8> for Granule {
+    ghost from_gives = { λ n granule. granule ≡ granule_numbered n };
+
+    #[tactic(auto, unfolding(crate::specs::Words::granule_numbered))]
+    fn from(n: u8) -> Granule {
         match n {
             0 => Granule::Kib4,
             1 => Granule::Kib64,
@@ -385,65 +371,69 @@ impl Granule {
     }
 }
 
-impl RegimeWords {
-    // The regime that the numbers stand for.
-    pub fn regime(self) -> Regime
-        ensures { result ≡ regime_of self }
-    {
+// The regime that the numbers stand for.
+impl From<RegimeWords> for Regime {
+    ghost from_gives = { λ words regime. regime ≡ regime_of words };
+
+    #[tactic(auto, unfolding(crate::specs::Words::regime_of))]
+    fn from(words: RegimeWords) -> Regime {
         let pool = Pool {
-            start: self.start,
-            length: self.length,
-            address: PhysAddr(self.address),
+            start: words.start,
+            length: words.length,
+            address: PhysAddr(words.address),
         };
         let range0 = Range {
-            root: PhysAddr(self.root0),
-            tsz: self.tsz0,
-            disabled: self.disabled0 != 0,
-            hpd: self.hpd0 != 0,
+            root: PhysAddr(words.root0),
+            tsz: words.tsz0,
+            disabled: words.disabled0 != 0,
+            hpd: words.hpd0 != 0,
         };
         let range1 = Range {
-            root: PhysAddr(self.root1),
-            tsz: self.tsz1,
-            disabled: self.disabled1 != 0,
-            hpd: self.hpd1 != 0,
+            root: PhysAddr(words.root1),
+            tsz: words.tsz1,
+            disabled: words.disabled1 != 0,
+            hpd: words.hpd1 != 0,
         };
-        Regime::new()
-            .with_pool(pool)
-            .with_range0(range0)
-            .with_range1(range1)
-            .with_output(self.output)
-            .with_ha(self.ha != 0)
-            .with_hd(self.hd != 0)
-            .with_wxn(self.wxn != 0)
-            .with_ee(self.ee != 0)
-            .with_granule(Granule::numbered(self.granule))
-            .with_attributes(self.attributes)
+        Regime {
+            pool,
+            range0,
+            range1,
+            output: words.output,
+            ha: words.ha != 0,
+            hd: words.hd != 0,
+            wxn: words.wxn != 0,
+            ee: words.ee != 0,
+            granule: Granule::from(words.granule),
+            attributes: words.attributes,
+        }
     }
+}
 
-    // A regime as numbers.
-    pub fn of(r: Regime) -> Self
-        ensures { result ≡ regime_words r }
-    {
-        let granule = r.granule;
+// A regime as numbers.
+impl From<Regime> for RegimeWords {
+    ghost from_gives = { λ regime words. words ≡ regime_words regime };
+
+    #[tactic(auto, unfolding(crate::specs::Words::regime_words))]
+    fn from(regime: Regime) -> RegimeWords {
         RegimeWords {
-            start: r.pool.start,
-            length: r.pool.length,
-            address: r.pool.address.0,
-            root0: r.range0.root.0,
-            root1: r.range1.root.0,
-            attributes: r.attributes,
-            tsz0: r.range0.tsz,
-            tsz1: r.range1.tsz,
-            disabled0: flag_byte(r.range0.disabled),
-            disabled1: flag_byte(r.range1.disabled),
-            output: r.output,
-            ha: flag_byte(r.ha),
-            hd: flag_byte(r.hd),
-            wxn: flag_byte(r.wxn),
-            hpd0: flag_byte(r.range0.hpd),
-            hpd1: flag_byte(r.range1.hpd),
-            ee: flag_byte(r.ee),
-            granule: granule.number(),
+            start: regime.pool.start,
+            length: regime.pool.length,
+            address: regime.pool.address.0,
+            root0: regime.range0.root.0,
+            root1: regime.range1.root.0,
+            attributes: regime.attributes,
+            tsz0: regime.range0.tsz,
+            tsz1: regime.range1.tsz,
+            disabled0: u8::from(regime.range0.disabled),
+            disabled1: u8::from(regime.range1.disabled),
+            output: regime.output,
+            ha: u8::from(regime.ha),
+            hd: u8::from(regime.hd),
+            wxn: u8::from(regime.wxn),
+            hpd0: u8::from(regime.range0.hpd),
+            hpd1: u8::from(regime.range1.hpd),
+            ee: u8::from(regime.ee),
+            granule: u8::from(regime.granule),
             spare32: 0,
         }
     }
@@ -453,83 +443,56 @@ impl AccessKind {
     pub fn is_fetch(self) -> bool
         ensures { result ≡ is_fetch self }
     {
-        match self {
-            AccessKind::Read => false,
-            AccessKind::Write => false,
-            AccessKind::Update => false,
-            AccessKind::Fetch => true,
-            AccessKind::ProbeRead => false,
-            AccessKind::ProbeWrite => false,
-        }
+        matches!(self, AccessKind::Fetch)
     }
 
     pub fn is_probe(self) -> bool
         ensures { result ≡ is_probe self }
     {
-        match self {
-            AccessKind::Read => false,
-            AccessKind::Write => false,
-            AccessKind::Update => false,
-            AccessKind::Fetch => false,
-            AccessKind::ProbeRead => true,
-            AccessKind::ProbeWrite => true,
-        }
+        matches!(self, AccessKind::ProbeRead | AccessKind::ProbeWrite)
     }
 
     // Whether it asks for permission to write.
     pub fn asks_write(self) -> bool
         ensures { result ≡ asks_write self }
     {
-        match self {
-            AccessKind::Read => false,
-            AccessKind::Write => true,
-            AccessKind::Update => true,
-            AccessKind::Fetch => false,
-            AccessKind::ProbeRead => false,
-            AccessKind::ProbeWrite => true,
-        }
+        matches!(
+            self,
+            AccessKind::Write | AccessKind::Update | AccessKind::ProbeWrite
+        )
     }
 
     // Whether it writes, and so makes a page dirty.
     pub fn writes(self) -> bool
         ensures { result ≡ writes_of self }
     {
-        match self {
-            AccessKind::Read => false,
-            AccessKind::Write => true,
-            AccessKind::Update => true,
-            AccessKind::Fetch => false,
-            AccessKind::ProbeRead => false,
-            AccessKind::ProbeWrite => false,
-        }
+        matches!(self, AccessKind::Write | AccessKind::Update)
     }
 }
 
 impl Refusal {
-    // Its number (RULES 5.1).
+    // Its number (RULES 5.1), by the name that the documents give a caller.
     pub fn number(self) -> u8
         ensures { result ≡ number_of self }
     {
-        match self {
-            Refusal::MemoryPool => 1,
-            Refusal::PoolAddress => 2,
-            Refusal::Sizes => 3,
-            Refusal::Root => 4,
-            Refusal::Attributes => 5,
-            Refusal::AccessSize => 6,
-            Refusal::PageCrossing => 7,
-            Refusal::StoreAddress => 8,
-            Refusal::NoRegime => 9,
-            Refusal::PageRange => 10,
-            Refusal::MapLength => 11,
-            Refusal::WalkEnded => 12,
-            Refusal::DirtyState => 13,
-        }
+        self as u8
     }
 }
 
 impl Fault {
-    // The fault status code.
+    // The fault of a lookup that ends at a level, after so many reads. Nothing of it may be remembered.
+    pub fn of_lookup(kind: FaultKind, level: u8, reads: u8) -> Self
+        ensures { result ≡ record { kind = kind; level = level; cacheable = false; reads = reads } }
+    {
+        Fault {
+            kind: kind,
+            level: level,
+            cacheable: false,
+            reads: reads,
+        }
+    }
+
+    // The fault status code: a table of the rules, which asks for the level too.
     pub fn code(self) -> u16
         ensures { result ≡ code_of self.kind self.level }
     {
@@ -564,13 +527,13 @@ impl Answer {
     {
         match self {
             Answer::Success(s) => s.dirtied,
-            Answer::Fault(_) => false,
-            Answer::Refused(_) => false,
+            Answer::Fault(_) | Answer::Refused(_) => false,
         }
     }
 }
 
 // Attribute byte i.
+#[tactic(auto, unfolding(crate::specs::Attributes::attribute))]
 pub fn attribute(attributes: u64, i: u8) -> u8
     requires { i < 8 }
     ensures { result ≡ attribute_of attributes i }
@@ -579,8 +542,9 @@ pub fn attribute(attributes: u64, i: u8) -> u8
 }
 
 // Whether an attribute byte says Device memory.
+#[tactic(auto, unfolding(crate::specs::Attributes::device))]
 pub fn device(b: u8) -> bool
     ensures { result ≡ device_of b }
 {
-    (b == 0) | (b == 4) | (b == 8) | (b == 12)
+    matches!(b, 0x00 | 0x04 | 0x08 | 0x0c)
 }

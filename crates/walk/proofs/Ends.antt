@@ -1,21 +1,19 @@
 -- From what the lookup hands back to the end of its trace, and a pool that is put back into its memory.
-use Prim.Native.Nat.{ℕ, zero, suc, ◌+◌, ◌-◌, ◌%◌, ◌<◌, ◌≤◌}
+use Prim.Native.Nat.{ℕ, ◌+◌, ◌-◌, ◌%◌, ◌<◌, ◌≤◌}
 use mathlib.Core.Bool.{Bool, true, false}
 use lib.Dec.{eqb}
-use mathlib.Core.List.{List, ◌++◌, append_assoc}
-use mathlib.Core.Option.{Option, none, some}
-use mathlib.Core.Path.{◌≡◌, refl, sym, ap, subst, ◌∙◌}
+use mathlib.Core.List.{List, ◌++◌}
+use mathlib.Core.Path.{◌≡◌, sym, ap, subst, ◌∙◌}
 use native.Mathlib.Nat.{zero-add}
-use native.Mathlib.Omega.{arith}
 use lib.ListN.{length, take, drop}
-use lib.Seq.{drop-drop}
 use borrow.Author.Tests.{eqb-true, not-false}
+use Rattle.std.specs.Prelude.{None, Some, Ok, Err}
 use Rattle.descriptor.proofs.Tests.{clash}
 use Rattle.descriptor.specs.Bytes.{put}
 use Rattle.descriptor.specs.Bits.{pick}
 use Rattle.vmsa.specs.Limits.{Sized}
 use Rattle.vmsa.specs.Granules.{page_bits_of}
-use Rattle.geometry.specs.Geometry.{level_of, page_size, unaligned}
+use Rattle.geometry.specs.Geometry.{page_size, unaligned}
 use Rattle.geometry.proofs.Geometry.{paged}
 use Rattle.vmsa.specs.declared.Regime.{Regime}
 use Rattle.vmsa.specs.declared.Access.{Access}
@@ -23,12 +21,10 @@ use Rattle.vmsa.specs.declared.Leaf.{Leaf}
 use Rattle.vmsa.specs.Answers.{view, cacheable_in}
 use Rattle.vmsa.specs.declared.Answer.{Answer}
 use Rattle.vmsa.specs.declared.Answer.TheVariants as answer
-use Rattle.checks.specs.declared.Checked.TheVariants.{Accepted}
 use Rattle.checks.specs.Order.{walk_check}
 use Rattle.checks.proofs.Accept.{Rooted, walk_accepted}
-use Rattle.vmsa.specs.declared.FaultKind.{FaultKind}
-use Rattle.lookup.specs.declared.Ending.{Ending}
-use Rattle.lookup.specs.declared.Ending.TheVariants as ending
+use Rattle.lookup.specs.declared.LeafAt.{LeafAt}
+use Rattle.lookup.specs.declared.FaultAt.{FaultAt}
 use Rattle.lookup.specs.declared.Located.{Located}
 use Rattle.lookup.specs.Trace.{End, fault, leaf, Trace, shown_end, shown}
 use Rattle.lookup.specs.Steps.{pool_reader, context_of, upper, range_of}
@@ -39,37 +35,34 @@ use Rattle.decision.specs.Decision.{decision, seen}
 use Rattle.walk.proofs.Parts.{put_back}
 use Rattle.walk.specs.Walk.{Outcome, traced, outcome, applied, walk_pool, revalued, kept_of, kept_pool, walk}
 
--- a trace that ends in this leaf, and one that ends in this fault
-pub record AtLeaf (t : Trace) (l : Located) : Type 0 where
-  pub end : t.end ≡ leaf l.address.0 l.leaf
-  pub reads : length t.visited ≡ l.reads
+-- ---- the end of a trace, from the lookup that shows it
 
-pub record AtFault (t : Trace) (l : Located) (kind : FaultKind) : Type 0 where
-  pub end : t.end ≡ fault kind l.level
-  pub reads : length t.visited ≡ l.reads
+leaf_by : (e : End) (l : LeafAt) → shown_end e ≡ Ok l → e ≡ leaf l.address.0 l.leaf
+leaf_by (fault kind level) l h = clash (cc)
+leaf_by (leaf a x) l h =
+    let z : ◌≡◌ {A = LeafAt} (record { address = record { 0 = a }; leaf = x }) l = cc in
+    ap (λ (y : LeafAt). leaf y.address.0 y.leaf) z
 
-leaf_by : (n : ℕ) (e : End) (l : Located) → l ≡ shown_end n e → l.ending ≡ ending.Leaf → (e ≡ leaf l.address.0 l.leaf) × (n ≡ l.reads)
-leaf_by n (fault kind level) l q h = clash (let z : ending.Fault kind ≡ ending.Leaf = sym (ap (λ (x : Located). x.ending) q) ∙ h in cc)
-leaf_by n (leaf a x) l q h = rw q (refl, refl)
+fault_by : (e : End) (f : FaultAt) → shown_end e ≡ Err f → e ≡ fault f.kind f.level
+fault_by (fault kind level) f h =
+    let z : ◌≡◌ {A = FaultAt} (record { kind = kind; level = level }) f = cc in
+    ap (λ (y : FaultAt). fault y.kind y.level) z
+fault_by (leaf a x) f h = clash (cc)
 
-fault_by : (n : ℕ) (e : End) (l : Located) (kind : FaultKind) → l ≡ shown_end n e → l.ending ≡ ending.Fault kind → (e ≡ fault kind l.level) × (n ≡ l.reads)
-fault_by n (fault k level) l kind q h =
-    let z : ending.Fault k ≡ ending.Fault kind = sym (ap (λ (x : Located). x.ending) q) ∙ h in
-    let y : k ≡ kind = cc in
-    rw (q, y) (refl, refl)
-fault_by n (leaf a x) l kind q h = clash (let z : ending.Leaf ≡ ending.Fault kind = sym (ap (λ (x : Located). x.ending) q) ∙ h in cc)
+module _ (t : Trace) (l : Located) (q : l ≡ shown 0 t) where
+  end_shown : shown_end t.end ≡ l.end
+  unfolding shown
+  end_shown = sym (ap (λ (x : Located). x.end) q)
 
-pub at_leaf : (t : Trace) (l : Located) → l ≡ shown 0 t → l.ending ≡ ending.Leaf → AtLeaf t l
-unfolding shown
-at_leaf t l q h =
-    let s = leaf_by (0 + length t.visited) t.end l q h in
-    record { end = s.0; reads = sym (zero-add (length t.visited)) ∙ s.1 }
+  pub reads_shown : length t.visited ≡ l.reads
+  unfolding shown
+  reads_shown = sym (zero-add (length t.visited)) ∙ sym (ap (λ (x : Located). x.reads) q)
 
-pub at_fault : (t : Trace) (l : Located) (kind : FaultKind) → l ≡ shown 0 t → l.ending ≡ ending.Fault kind → AtFault t l kind
-unfolding shown
-at_fault t l kind q h =
-    let s = fault_by (0 + length t.visited) t.end l kind q h in
-    record { end = s.0; reads = sym (zero-add (length t.visited)) ∙ s.1 }
+  pub at_leaf : (f : LeafAt) → l.end ≡ Ok f → t.end ≡ leaf f.address.0 f.leaf
+  at_leaf f h = leaf_by t.end f (end_shown ∙ h)
+
+  pub at_fault : (f : FaultAt) → l.end ≡ Err f → t.end ≡ fault f.kind f.level
+  at_fault f h = fault_by t.end f (end_shown ∙ h)
 
 -- a leaf that the walk reached: it lies in the pool
 pub record Found (r : Regime) (pool : List ℕ) (address a : ℕ) (l : Leaf) : Type 0 where
@@ -86,36 +79,44 @@ found r pool address a l z e q =
 -- ---- the answer over the pool, from what the code computed
 
 module _ (r : Regime) (a : Access) (pool : List ℕ) (l : Located) (q : l ≡ shown 0 (traced r pool a.address.0)) where
-  pub fault_outcome_lem : (kind : FaultKind) → l.ending ≡ ending.Fault kind
-      → outcome (answer.Fault (record { kind = kind; level = l.level; cacheable = false; reads = l.reads })) pool ≡ walk_pool r a pool
-  unfolding walk_pool
-  fault_outcome_lem kind h = let f = at_fault (traced r pool a.address.0) l kind q h in rw (f.reads, f.end)
+  reads_are : length (traced r pool a.address.0).visited ≡ l.reads
+  reads_are = reads_shown (traced r pool a.address.0) l q
 
-  opened : l.ending ≡ ending.Leaf → walk_pool r a pool ≡ applied r.ee pool (l.address.0 - r.pool.address.0) (decision r a l.leaf l.reads)
-  unfolding walk_pool
-  opened h = let f = at_leaf (traced r pool a.address.0) l q h in rw (f.reads, f.end)
+  module _ (f : FaultAt) (h : l.end ≡ Err f) where
+    fault_is : (traced r pool a.address.0).end ≡ fault f.kind f.level
+    fault_is = at_fault (traced r pool a.address.0) l q f h
 
-  pub kept_outcome : l.ending ≡ ending.Leaf → (v : Verdict) → seen v ≡ decision r a l.leaf l.reads → v.update ≡ false → outcome v.answer pool ≡ walk_pool r a pool
-  kept_outcome h v e u = sym (opened h ∙ rw (← e, u))
+    pub fault_outcome_lem : outcome (answer.Fault (record { kind = f.kind; level = f.level; cacheable = false; reads = l.reads })) pool ≡ walk_pool r a pool
+    unfolding walk_pool
+    fault_outcome_lem = rw (reads_are, fault_is)
 
-  pub stored_outcome : l.ending ≡ ending.Leaf → (v : Verdict) → seen v ≡ decision r a l.leaf l.reads → v.update ≡ true
-      → (after : List ℕ) → after ≡ put r.ee pool (l.address.0 - r.pool.address.0) v.value → outcome v.answer after ≡ walk_pool r a pool
-  stored_outcome h v e u after s = sym (opened h ∙ rw (← e, u, s))
+    pub fault_kept : None ≡ kept_pool r a pool
+    unfolding kept_pool
+    fault_kept = rw fault_is
 
-  pub fault_kept : (kind : FaultKind) → l.ending ≡ ending.Fault kind → none ≡ kept_pool r a pool
-  unfolding kept_pool
-  fault_kept kind h = let f = at_fault (traced r pool a.address.0) l kind q h in rw (f.reads, f.end)
+  module _ (f : LeafAt) (h : l.end ≡ Ok f) where
+    leaf_is : (traced r pool a.address.0).end ≡ leaf f.address.0 f.leaf
+    leaf_is = at_leaf (traced r pool a.address.0) l q f h
 
-  pub leaf_kept : l.ending ≡ ending.Leaf → (v : Verdict) → seen v ≡ decision r a l.leaf l.reads
-      → pick (cacheable_in (view v.answer)) (some (revalued l.leaf v.value)) none ≡ kept_pool r a pool
-  unfolding kept_pool
-  leaf_kept h v e =
-      let f = at_leaf (traced r pool a.address.0) l q h in
-      let d : kept_of l.leaf (seen v) ≡ kept_of l.leaf (decision r a l.leaf l.reads) = ap (kept_of l.leaf) e in
-      rw (f.reads, f.end) d
+    opened : walk_pool r a pool ≡ applied r.ee pool (f.address.0 - r.pool.address.0) (decision r a f.leaf l.reads)
+    unfolding walk_pool
+    opened = rw (reads_are, leaf_is)
 
-  pub leaf_found : l.ending ≡ ending.Leaf → Sized r → (range_of r a.address.0).root.0 % 8 ≡ 0 → Found r pool a.address.0 l.address.0 l.leaf
-  leaf_found h z e = found r pool a.address.0 l.address.0 l.leaf z e (at_leaf (traced r pool a.address.0) l q h).end
+    pub kept_outcome : (v : Verdict) → seen v ≡ decision r a f.leaf l.reads → v.update ≡ false → outcome v.answer pool ≡ walk_pool r a pool
+    kept_outcome v e u = sym (opened ∙ rw (← e, u))
+
+    pub stored_outcome : (v : Verdict) → seen v ≡ decision r a f.leaf l.reads → v.update ≡ true
+        → (after : List ℕ) → after ≡ put r.ee pool (f.address.0 - r.pool.address.0) v.value → outcome v.answer after ≡ walk_pool r a pool
+    stored_outcome v e u after s = sym (opened ∙ rw (← e, u, s))
+
+    pub leaf_kept : (v : Verdict) → seen v ≡ decision r a f.leaf l.reads → pick (cacheable_in (view v.answer)) (Some (revalued f.leaf v.value)) None ≡ kept_pool r a pool
+    unfolding kept_pool
+    leaf_kept v e =
+        let d : kept_of f.leaf (seen v) ≡ kept_of f.leaf (decision r a f.leaf l.reads) = ap (kept_of f.leaf) e in
+        rw (reads_are, leaf_is) d
+
+    pub leaf_found : Sized r → (range_of r a.address.0).root.0 % 8 ≡ 0 → Found r pool a.address.0 f.address.0 f.leaf
+    leaf_found z e = found r pool a.address.0 f.address.0 f.leaf z e leaf_is
 
 -- ---- what acceptance gives the walk over the pool
 
@@ -141,7 +142,7 @@ pub record Ready (n : ℕ) (r : Regime) (a : Access) : Type 0 where
   pub root : (range_of r a.address.0).root.0 % 8 ≡ 0
   pub size : 0 < a.size
 
-pub ready : (n : ℕ) (r : Regime) (a : Access) → walk_check n r a ≡ Accepted → Ready n r a
+pub ready : (n : ℕ) (r : Regime) (a : Access) → walk_check n r a ≡ Ok tt → Ready n r a
 ready n r a e =
     let h = walk_accepted n r a e in
     record {
@@ -152,7 +153,7 @@ ready n r a e =
     }
 
 -- the walk over the memory, from the walk over the part of k bytes that is the pool
-pub memory_outcome : (r : Regime) (a : Access) (m : List ℕ) → walk_check (length m) r a ≡ Accepted → (v : Answer) (x : List ℕ) (k : ℕ) → k ≡ r.pool.length
+pub memory_outcome : (r : Regime) (a : Access) (m : List ℕ) → walk_check (length m) r a ≡ Ok tt → (v : Answer) (x : List ℕ) (k : ℕ) → k ≡ r.pool.length
     → outcome v x ≡ walk_pool r a (take k (drop r.pool.start m))
     → outcome v (take r.pool.start m ++ (x ++ drop k (drop r.pool.start m))) ≡ walk r a m
 unfolding walk

@@ -4,6 +4,7 @@ use mathlib.Core.Bool.{Bool, true, false}
 use mathlib.Core.List.{List}
 use mathlib.Core.Path.{◌≡◌, refl, subst}
 use lib.ListN.{length}
+use Rattle.std.specs.Prelude.{Ok, Err}
 use Rattle.descriptor.specs.Bits.{pick}
 use Rattle.vmsa.specs.Limits.{Sized}
 use Rattle.vmsa.specs.declared.Regime.{Regime}
@@ -12,9 +13,7 @@ use Rattle.vmsa.specs.declared.Leaf.{Leaf}
 use Rattle.vmsa.specs.declared.FaultKind.{FaultKind}
 use Rattle.vmsa.specs.declared.FaultKind.TheVariants.{AccessFlag, Alignment, Permission}
 use Rattle.vmsa.proofs.Answers.{LowIn}
-use Rattle.checks.specs.declared.Checked.{Checked}
-use Rattle.checks.specs.declared.Checked.TheVariants.{Accepted, Refused}
-use Rattle.checks.specs.Order.{walk_check}
+use Rattle.checks.specs.Order.{Checked, walk_check}
 use Rattle.lookup.specs.Trace.{End, fault, leaf}
 use Rattle.lookup.specs.Packing.{Backed}
 use Rattle.lookup.proofs.Packing.{level_le}
@@ -44,8 +43,8 @@ low_end r a pool n (leaf at l) h = low_decision r a l n
 
 low_by : (r : Regime) (a : Access) (m : List ℕ) (c : Checked) → walk_check (length m) r a ≡ c → LowIn (checked (walk_pool r a) r.pool m c).result
 unfolding walk_pool
-low_by r a m (Refused x) e = tt
-low_by r a m Accepted e =
+low_by r a m (Err x) e = tt
+low_by r a m (Ok _) e =
     let pool = pool_bytes r.pool m in
     low_end r a pool (length (traced r pool a.address.0).visited) (traced r pool a.address.0).end (λ kind level q. low_fault r pool a.address.0 (ready (length m) r a e).sized kind level q)
 

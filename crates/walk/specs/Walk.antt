@@ -1,6 +1,5 @@
 -- The plain walk (RULES 6): the checks, steps 1 to 5, steps 6 to 8, and the leaf's new value put back into the pool.
-use Rattle.std.specs.Prelude.{ℕ, ◌+◌, ◌-◌, Bool, false, List, ◌++◌, length, take, drop}
-use Rattle.std.proofs.Math.Option.{Option, none, some}
+use Rattle.std.specs.Prelude.{ℕ, ◌+◌, ◌-◌, Bool, false, List, ◌++◌, length, take, drop, Option, None, Some, Ok, Err}
 use Rattle.descriptor.specs.Bytes.{put}
 use Rattle.descriptor.specs.Bits.{pick}
 use Rattle.vmsa.specs.Answers.{Result, fault as faulted, refused, code_of, number_of, view, cacheable_in}
@@ -9,14 +8,10 @@ use Rattle.vmsa.specs.declared.Pool.{Pool}
 use Rattle.vmsa.specs.declared.Access.{Access}
 use Rattle.vmsa.specs.declared.Answer.{Answer}
 use Rattle.vmsa.specs.declared.Leaf.{Leaf}
-use Rattle.checks.specs.declared.Checked.{Checked}
-use Rattle.checks.specs.declared.Checked.TheVariants.{Accepted, Refused}
-use Rattle.checks.specs.Order.{walk_check}
+use Rattle.checks.specs.Order.{Checked, walk_check}
 use Rattle.lookup.specs.Trace.{End, fault, leaf, Trace}
 use Rattle.lookup.specs.Steps.{pool_reader, locate}
 use Rattle.decision.specs.Decision.{Decision, decision}
-use Rattle.walk.specs.declared.Kept.{Kept}
-use Rattle.walk.specs.declared.Kept.TheVariants as kept
 
 -- an answer in numbers, and the bytes afterwards
 pub record Outcome : Type 0 where
@@ -61,24 +56,19 @@ revalued l v = record { value = v; left = l.left; tables = l.tables }
 
 -- the leaf that may be remembered: as the walk left it, updates included, under the tables that it met (RULES 10.2)
 abbrev pub kept_of : Leaf → Decision → Option Leaf
-kept_of l d = pick (cacheable_in d.result) (some (revalued l d.value)) none
+kept_of l d = pick (cacheable_in d.result) (Some (revalued l d.value)) None
 
 abbrev pub kept_at : Regime → Access → ℕ → End → Option Leaf
-kept_at r a reads (fault kind level) = none
+kept_at r a reads (fault kind level) = None
 kept_at r a reads (leaf at l) = kept_of l (decision r a l reads)
 
 unfoldable pub kept_pool : Regime → Access → List ℕ → Option Leaf
 kept_pool r a pool = kept_at r a (length (traced r pool a.address.0).visited) (traced r pool a.address.0).end
 
--- what the code keeps, in these values
-abbrev pub kept_leaf : Kept → Option Leaf
-kept_leaf (kept.Leaf l) = some l
-kept_leaf kept.Nothing = none
-
 -- what is done over the pool's bytes, in the memory; a refusal carries its number alone and changes nothing
 abbrev pub checked : (List ℕ → Outcome) → Pool → List ℕ → Checked → Outcome
-checked over p memory (Refused x) = record { result = refused (number_of x); bytes = memory }
-checked over p memory Accepted = record { result = (over (pool_bytes p memory)).result; bytes = with_pool_bytes p memory (over (pool_bytes p memory)).bytes }
+checked over p memory (Err x) = record { result = refused (number_of x); bytes = memory }
+checked over p memory (Ok _) = record { result = (over (pool_bytes p memory)).result; bytes = with_pool_bytes p memory (over (pool_bytes p memory)).bytes }
 
 -- the plain walk over the lent memory
 unfoldable pub walk : Regime → Access → List ℕ → Outcome

@@ -1,4 +1,4 @@
--- What the walks over a lent session share, beside the crate `borrows`.
+-- What the walks over a lent session share, beside the crate `borrows`. Kept, since the documents name it; no proof needs it today.
 --     sval s, IsSession s       the machine value of the session s, and that it is one, as is known of a session that is owned
 --     Borrow r s                what the `&mut Session` r owns, at the session s
 --     Cell r s, Open r          once it is open: the session's cell by its fields, with s in it, and the borrow

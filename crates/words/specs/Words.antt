@@ -1,6 +1,5 @@
 -- An access and an answer as structs of numbers (RULES 15), and the calls of a monitor in them.
-use Rattle.std.specs.Prelude.{ℕ, true, false, List, eqb}
-use Rattle.std.proofs.Math.Option.{Option, none, some}
+use Rattle.std.specs.Prelude.{ℕ, List, eqb, Option, None, Some, Result as Either, Ok, Err}
 use Rattle.descriptor.specs.Bits.{pick}
 use Rattle.vmsa.specs.Words.{flag, flag_byte, regime_words}
 use Rattle.vmsa.specs.Answers.{Result, success, fault, refused}
@@ -8,9 +7,11 @@ use Rattle.vmsa.specs.declared.Access.{Access}
 use Rattle.vmsa.specs.declared.AccessKind.{AccessKind}
 use Rattle.vmsa.specs.declared.AccessKind.TheVariants.{Read, Write, Update, Fetch, ProbeRead, ProbeWrite}
 use Rattle.vmsa.specs.declared.Regime.{Regime}
+use Rattle.vmsa.specs.declared.RegimeWords.{RegimeWords}
+use Rattle.vmsa.specs.declared.Refusal.{Refusal}
 use Rattle.checks.specs.Order.{regime_check}
 use Rattle.walk.specs.Walk.{walk}
-use Rattle.checks.specs.declared.Checked.{Checked}
+use Rattle.checks.specs.Order.{Checked}
 use Rattle.harvest.specs.Harvest.{Harvested}
 use Rattle.tlb.specs.Replies.{Reply, done, refused as refused_with, answered, harvested, Told, told, reply_to}
 use Rattle.tlb.specs.Entries.{Filling, filling}
@@ -18,8 +19,6 @@ use Rattle.session.specs.declared.Session.{Session as SessionStruct}
 use Rattle.session.specs.Model.{Handed, handed}
 use Rattle.words.specs.declared.AccessWords.{AccessWords}
 use Rattle.words.specs.declared.AnswerWords.{AnswerWords}
-use Rattle.words.specs.declared.Hit.{Hit}
-use Rattle.words.specs.declared.SetWords.{SetWords}
 
 -- 0 read, 1 write, 2 update, 3 fetch, 4 probe-read, 5 probe-write; a number above is an update, so that no write passes without its mark
 abbrev pub access_kind : ℕ → AccessKind
@@ -126,11 +125,7 @@ replied numbers x = handed x.session x.memory (numbers x.reply)
 abbrev pub entry_replied : Filling Reply → Filling AnswerWords
 entry_replied x = filling x.entry x.memory (reply_words x.reply)
 
--- a store's number, and the memory afterwards
-abbrev pub numbered : Told Reply → Told ℕ
-numbered t = told (refusal_byte t.reply) t.memory
-
--- the same of a harvest, and the map
+-- a harvest's number, the memory afterwards, and the map
 abbrev pub harvest_numbered : Harvested Checked → Harvested ℕ
 harvest_numbered h = record { reply = refusal_byte (reply_to h.reply); memory = h.memory; map = h.map }
 
@@ -138,11 +133,18 @@ harvest_numbered h = record { reply = refusal_byte (reply_to h.reply); memory = 
 abbrev pub harvest_replied : SessionStruct × Harvested Checked → SessionStruct × Harvested ℕ
 harvest_replied x = (x.0, harvest_numbered x.1)
 
--- a regime to be set over n bytes of memory: the number of the refusal or 0, and the regime as a session holds it
+-- a regime to be set over n bytes of memory, as a session holds it, or the refusal
+abbrev pub SetWords : Type 0
+SetWords = Either RegimeWords Refusal
+
+abbrev pub set_by : Regime → Checked → SetWords
+set_by r (Ok _) = Ok (regime_words r)
+set_by r (Err x) = Err x
+
 abbrev pub set_words : ℕ → Regime → SetWords
-set_words n r = record { refusal = refusal_byte (reply_to (regime_check n r)); regime = regime_words r }
+set_words n r = set_by r (regime_check n r)
 
 -- a reply that is given at once, as numbers; where there is none, the access walks
-unfoldable pub hit_of : Option Reply → Hit
-hit_of none = record { hit = false; answer = words_of (refused 0) }
-hit_of (some reply) = record { hit = true; answer = reply_words reply }
+unfoldable pub hit_of : Option Reply → Option AnswerWords
+hit_of None = None
+hit_of (Some reply) = Some (reply_words reply)

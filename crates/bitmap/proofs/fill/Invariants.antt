@@ -1,10 +1,8 @@
--- The loop keeps: the bits of the bytes from lo on, below i, are raised.
-use Prim.Native.Nat.{◌*◌, ◌≤◌, ◌-◌}
-use Rattle.bitmap.specs.Map.{Raises, between}
+-- The loop keeps: the bytes of the part so far are 255.
+use Prim.Native.Nat.{ℕ, ◌-◌, ◌<◌}
+use mathlib.Core.Path.{◌≡◌}
+use lib.ListN.{length, get_or}
 use Rattle.bitmap.proofs.fill.Given as goal
 
-abbrev pub invariant-loop-i : goal.invariant-loop-i
-invariant-loop-i l = (l.lo ≤ l.i) × (l.i ≤ l.hi) × Raises (between (8 * l.lo) (8 * l.i)) l.initial.map l.map
-
-abbrev pub decreases-loop-i : goal.decreases-loop-i
-decreases-loop-i l = l.hi - l.i
+abbrev pub invariant-loop-byte : goal.invariant-loop-byte
+invariant-loop-byte l = record { long : length l.byte-items ≡ l.hi - l.lo; full : (k : ℕ) → k < l.byte-index → get_or l.byte-items k 0 ≡ 255 }

@@ -1,21 +1,29 @@
-use native.Mathlib.Nat.{add-zero}
-use native.Mathlib.Omega.{arith}
+use Prim.Native.Nat.{ℕ, ◌+◌, ◌-◌, ◌≤◌}
+use mathlib.Core.Bool.{Bool, true, false}
+use mathlib.Core.List.{List, [], ◌∷◌}
 use mathlib.Core.Path.{◌≡◌}
-use lib.ListN.{length, take, drop, length-drop}
-use lib.Seq.{length-take-le}
-use Rattle.descriptor.specs.Bytes.{Bytes, number, desc}
+use native.Mathlib.Omega.{arith}
+use lib.ListN.{length, take, drop}
+use Rattle.std.specs.Int.{w64, from_le_bytes, from_be_bytes}
+use Rattle.descriptor.specs.Bits.{pick}
+use Rattle.descriptor.specs.Bytes.{number, in_order, value_of, desc}
 use Rattle.descriptor.proofs.Laws.{cells, window0}
-use Rattle.descriptor.proofs.Numbers.{bytes_take, bytes_drop, value_again}
 use Rattle.descriptor.proofs.load.Goals as goal
 
-pub returns : goal.returns
+-- std's number of 8 bytes in either order
+read : (ee : Bool) (a b c d e f g h : ℕ) →
+    pick ee (from_be_bytes w64 (a ∷ b ∷ c ∷ d ∷ e ∷ f ∷ g ∷ h ∷ [])) (from_le_bytes w64 (a ∷ b ∷ c ∷ d ∷ e ∷ f ∷ g ∷ h ∷ [])) ≡ value_of ee (a ∷ b ∷ c ∷ d ∷ e ∷ f ∷ g ∷ h ∷ [])
+unfolding value_of in_order number
+read true a b c d e f g h = omega arith
+read false a b c d e f g h = omega arith
+
+read_at : (ee : Bool) (l bytes : List ℕ) (at : ℕ) → at + 8 ≤ length l → bytes ≡ take 8 (drop at l) → pick ee (from_be_bytes w64 bytes) (from_le_bytes w64 bytes) ≡ desc ee l at
 unfolding desc cells
+read_at ee l bytes at fits e = rw (e, window0 8 l at fits) (read ee _ _ _ _ _ _ _ _)
+
+pub returns : goal.returns
 returns c =
-    let start = c in
-    let a = start.args in
-    let eight = take 8 (drop a.at a.memory.now) in
-    let long : length eight ≡ 8 = length-take-le 8 (drop a.at a.memory.now) (rw (length-drop a.at a.memory.now) (omega (arith, start.requires))) in
-    let read : c.from_le_bytes-v.result ≡ number eight =
-    rw (window0 8 a.memory.now a.at start.requires, add-zero a.at) c.from_le_bytes-v.ensures in
-    let bytes : Bytes eight = bytes_take (drop a.at a.memory.now) 8 (bytes_drop a.memory.now a.at (λ i. omega (arith, c.shared_slice_known-1.given i))) in
-    rw (c.in_order.ensures, read) (value_again a.ee eight long bytes)
+    let a = c.args in
+    let n : a.at + 8 - a.at ≡ 8 = omega arith in
+    let eight = (rw c.unwrap-bytes.ensures at c.try_into.ensures.1).same in
+    rw (c.select.ensures, c.from_be_bytes.ensures, c.from_le_bytes.ensures) (read_at a.ee a.memory.now _ a.at c.requires (rw n at eight))

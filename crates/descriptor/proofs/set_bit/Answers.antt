@@ -6,10 +6,6 @@ use Rattle.descriptor.specs.Bits.{bit, set_bit}
 use Rattle.descriptor.proofs.BitLaws.{set_small}
 use Rattle.descriptor.proofs.set_bit.Goals as goal
 
-pub returns-then-bit : goal.returns-then-bit
-unfolding set_bit
-returns-then-bit c = rw (sym c.bit.ensures ∙ c.if-bit.true)
-
 raised : (n v : ℕ) → bit n v ≡ false → set_bit n v ≡ v + 2 ^ n
 unfolding set_bit
 raised n v e = rw e
@@ -20,8 +16,3 @@ overflow_add-result c =
     let e = raised a.n a.v (sym c.bit.ensures ∙ c.if-bit.false) in
     let v : a.v < 2 ^ 64 = omega arith in
     record { fits = rw (c.power.ensures.0, ← e) (set_small a.n a.v 64 (omega arith) v) }
-
-pub returns : goal.returns
-returns c =
-    let a = c.args in
-    rw c.power.ensures.0 (sym (raised a.n a.v (sym c.bit.ensures ∙ c.if-bit.false)))

@@ -4,7 +4,7 @@ use Rattle.geometry.specs.Geometry.{level_of}
 use Rattle.vmsa.specs.Fields.{table_bits, with_table}
 use Rattle.vmsa.proofs.Tables.{or_bits}
 use Rattle.lookup.specs.Packing.{leaf_number, joined, packed}
-use Rattle.lookup.specs.Steps.{context, descend, Sound, fetched}
+use Rattle.lookup.specs.Steps.{descend, Sound, fetched}
 use Rattle.lookup.specs.declared.Next.TheVariants.{Table}
 use Rattle.lookup.proofs.Levels.{fault_packed, table_packed, leaf_packed, abort_packed, value_packed, down_up}
 use Rattle.lookup.proofs.+enter_follow.Goals as goal
@@ -12,8 +12,8 @@ use Rattle.lookup.proofs.+enter_follow.Goals as goal
 pub enter-returns-in_default : goal.enter-returns-in_default
 enter-returns-in_default t c =
     let a = c.args in
-    let k = context a.base a.limit a.input a.page in
-    let read = fetched a.ee a.pool.now a.base.0 in
+    let k = a.c.now in
+    let read = fetched a.ee a.pool.now a.c.now.base.0 in
     c.pack.ensures
     ∙ ap (λ (number : ℕ). joined (level_of a.left) number 0 0) c.kind_number.ensures.0
     ∙ sym (abort_packed k read a.left (table_bits a.met) a.table.0
@@ -22,17 +22,17 @@ enter-returns-in_default t c =
 pub enter-returns : goal.enter-returns
 enter-returns t c =
     let a = c.args in
-    let k = context a.base a.limit a.input a.page in
-    let read = fetched a.ee a.pool.now a.base.0 in
+    let k = a.c.now in
+    let read = fetched a.ee a.pool.now a.c.now.base.0 in
     c.follow.ensures
-    ∙ sym (rw (← c.entry_at-at.ensures.0) at (value_packed k read a.left (table_bits a.met) a.table.0 c.in-Value.v
-    (rw (← c.entry_at-at.ensures.0) (sym c.fetch.ensures ∙ c.in-Value.is))))
+    ∙ sym (rw (← c.entry_at-at.ensures.0) at (value_packed k read a.left (table_bits a.met) a.table.0 c.in-Some.v
+    (rw (← c.entry_at-at.ensures.0) (sym c.fetch.ensures ∙ c.in-Some.is))))
 
 pub follow-returns-in-Fault : goal.follow-returns-in-Fault
 follow-returns-in-Fault t c =
     let a = c.args in
-    let k = context a.base a.limit a.input a.page in
-    let read = fetched a.ee a.pool.now a.base.0 in
+    let k = a.c.now in
+    let read = fetched a.ee a.pool.now a.c.now.base.0 in
     c.pack.ensures
     ∙ ap (λ (number : ℕ). joined (level_of a.left) number 0 0) c.kind_number.ensures.0
     ∙ sym (fault_packed k (descend k read a.left) (table_bits a.met) a.left a.at.0 a.v _ (sym c.decode.ensures.0 ∙ c.in-Fault.is))
@@ -40,8 +40,8 @@ follow-returns-in-Fault t c =
 pub follow-returns-in-Table : goal.follow-returns-in-Table
 follow-returns-in-Table t c =
     let a = c.args in
-    let k = context a.base a.limit a.input a.page in
-    let read = fetched a.ee a.pool.now a.base.0 in
+    let k = a.c.now in
+    let read = fetched a.ee a.pool.now a.c.now.base.0 in
     let table = c.in-Table.table in
     let h : Sound a.left (Table table) = rw c.in-Table.is at c.decode.ensures.1 in
     c.enter.ensures
@@ -52,8 +52,8 @@ follow-returns-in-Table t c =
 pub follow-returns-in-Leaf : goal.follow-returns-in-Leaf
 follow-returns-in-Leaf t c =
     let a = c.args in
-    let k = context a.base a.limit a.input a.page in
-    let read = fetched a.ee a.pool.now a.base.0 in
+    let k = a.c.now in
+    let read = fetched a.ee a.pool.now a.c.now.base.0 in
     c.pack-in-Leaf.ensures
     ∙ ap (λ (sum : ℕ). joined (level_of a.left) leaf_number sum a.at.0) c.table_bits.ensures.0
     ∙ sym (leaf_packed k (descend k read a.left) (table_bits a.met) a.left a.at.0 a.v (sym c.decode.ensures.0 ∙ c.in-Leaf.is))

@@ -1,4 +1,4 @@
-use Rattle.std.proofs.Common.{suc, ◌+◌, ◌*◌}
+use Rattle.std.proofs.Common.{◌+◌, ◌*◌}
 use Rattle.lookup.proofs.+enter_follow.Given as goal
 
 abbrev pub decreases-enter : goal.decreases-enter
