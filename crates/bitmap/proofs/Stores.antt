@@ -1,14 +1,15 @@
 -- What the stores of the functions leave of a map.
-use Prim.Native.Nat.{ℕ, ◌+◌, ◌*◌, ◌-◌, ◌/◌, ◌%◌, ◌^◌, ◌<◌, ◌≤◌}
+use Prim.Native.Nat.{ℕ, ◌+◌, ◌*◌, ◌-◌, ◌/◌, ◌%◌, ◌^◌, ◌<◌, ◌≤◌, zero, suc}
 use mathlib.Core.Bool.{Bool, true, false, ◌||◌}
-use mathlib.Core.List.{List}
+use mathlib.Core.List.{List, ◌∷◌, ◌++◌}
 use mathlib.Core.Path.{◌≡◌, refl, sym, ap, ◌∙◌}
+use native.Mathlib.Numerals.{add-one}
 use native.Mathlib.Omega.{arith}
 use lib.Dec.{eqb, lit<}
 use lib.Bits.{bit_or, or_lt}
 use lib.Pow.{pow-lt}
-use lib.ListN.{length, get_or, set, length-set}
-use lib.Seq.{get_or-set_same, get_or-set_other}
+use lib.ListN.{length, get_or, set, length-set, drop, replicate, length-replicate}
+use lib.Seq.{get_or-set_same, get_or-set_other, drop-cons, set_at}
 use borrow.Rule.Slice.PartMut.{put_mid}
 use Rattle.std.proofs.Common.{rules}
 use Rattle.std.proofs.lemmas.List.{places}
@@ -17,7 +18,7 @@ use Rattle.descriptor.specs.Bits.{bit}
 use Rattle.descriptor.specs.Bytes.{Bytes}
 use Rattle.descriptor.proofs.BitLaws.{or_bit}
 use Rattle.descriptor.proofs.Tests.{or_none, or_true}
-use Rattle.bitmap.specs.Map.{map_bit, Raises, between}
+use Rattle.bitmap.specs.Map.{map_bit, Raises, between, cleared}
 use Rattle.bitmap.proofs.Byte.{bit_power, bit_full}
 use Rattle.bitmap.proofs.Laws.{split, between_in, between_before, between_after}
 
@@ -89,3 +90,13 @@ raise_bytes m ys lo hi p q e full =
         (λ b. split j hi
         (λ r. rw (in_it j b r, between_in (8 * lo) (8 * hi) (8 * j + i) (omega arith) (omega arith)) (bit_full i l ∙ sym (or_true (bit i (get_or m j 0)))))
         (λ r. rw (after j r, between_after (8 * lo) (8 * hi) (8 * j + i) (omega arith)) (sym (or_none (bit i (get_or m j 0))))))
+
+-- one more byte cleared
+pub clear_next : (i : ℕ) (m : List ℕ) → i < length m → set (cleared i m) i 0 ≡ cleared (i + 1) m
+unfolding cleared
+clear_next i m h =
+    rw (drop-cons m i 0 h) (set_at (replicate i 0) (get_or m i 0) (drop (suc i) m) 0 i (length-replicate i 0) ∙ snoc i (drop (suc i) m) ∙ ap (λ (n : ℕ). replicate n 0 ++ drop n m) (sym (add-one i)))
+  where
+    snoc : (n : ℕ) (l : List ℕ) → replicate n 0 ++ 0 ∷ l ≡ replicate (suc n) 0 ++ l
+    snoc zero l = refl
+    snoc (suc n) l = ap (λ (y : List ℕ). 0 ∷ y) (snoc n l)

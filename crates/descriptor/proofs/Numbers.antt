@@ -3,11 +3,13 @@ use Prim.Native.Nat.{ℕ, zero, suc, ◌+◌, ◌*◌, ◌/◌, ◌%◌, ◌^◌
 use mathlib.Core.Bool.{Bool, true, false}
 use mathlib.Core.Path.{◌≡◌, refl, sym, ap, ◌∙◌}
 use mathlib.Core.List.{List, [], ◌∷◌, ◌++◌, reverse, reverse-cons, reverse-reverse, append_assoc}
-use native.Mathlib.Nat.{pow-succ', mod-lt}
+use native.Mathlib.Nat.{pow-succ', mod-lt, div-one}
+use lib.Pow.{shr-shr}
 use native.Mathlib.Omega.{arith}
 use lib.Dec.{lit<}
 use lib.ListN.{length, take, drop, length-take, length-drop, take-append-drop}
 use lib.Seq.{get_or-drop, drop-drop, length-take-le}
+use Rattle.descriptor.specs.Bits.{field}
 use Rattle.descriptor.specs.Bytes.{Bytes, number, digits, in_order, value_of, bytes_of, desc, put}
 use Rattle.descriptor.proofs.Laws.{length_in_order, length_bytes}
 
@@ -72,6 +74,21 @@ unfolding desc value_of
 desc_small ee m i h =
     let eight = take 8 (drop i m) in
     number_small 8 (in_order ee eight) (rw (length_in_order ee eight, length-take 8 (drop i m)) (omega arith)) (bytes_in_order ee eight (bytes_take (drop i m) 8 (bytes_drop m i h)))
+
+-- ---- the bytes of a number as fields
+
+-- n fields of a byte, from bit s on
+unfoldable pub fields : ℕ → ℕ → ℕ → List ℕ
+fields zero s v = []
+fields (suc n) s v = field s 8 v ∷ fields n (s + 8) v
+
+fields_from : (n s v : ℕ) → digits n (v / 2 ^ s) ≡ fields n s v
+unfolding digits fields
+fields_from zero s v = refl
+fields_from (suc n) s v = ap (λ (r : List ℕ). field s 8 v ∷ r) (ap (digits n) (shr-shr v s 8) ∙ fields_from n (s + 8) v)
+
+pub digits_fields : (n v : ℕ) → digits n v ≡ fields n 0 v
+digits_fields n v = ap (digits n) (sym (div-one v)) ∙ fields_from n 0 v
 
 -- ---- bytes come back from their number
 

@@ -6,11 +6,21 @@ ghost use Rattle.descriptor.specs.Bytes.{desc, put};
 ghost use Rattle.descriptor.specs.Bits.{pick, bit as bit_of, field as field_of, set_bit, clear_bit};
 
 // The descriptor at an offset, big-endian where ee holds. Both orders and a select become one load and a byte swap.
+// Byte by byte and not as a part of 8: of a part the compiler makes vectors in the cleaning of a harvest, which misses its bar (docs/PERFORMANCE.md).
 pub fn load(memory: &[u8], at: usize, ee: bool) -> u64
     requires { at + 8 ≤ length memory.now }
     ensures { result ≡ desc ee memory.now at }
 {
-    let bytes: [u8; 8] = memory[at..at + 8].try_into().unwrap();
+    let bytes = [
+        memory[at],
+        memory[at + 1],
+        memory[at + 2],
+        memory[at + 3],
+        memory[at + 4],
+        memory[at + 5],
+        memory[at + 6],
+        memory[at + 7],
+    ];
     select(ee, u64::from_be_bytes(bytes), u64::from_le_bytes(bytes))
 }
 
